@@ -1,0 +1,47 @@
+// Values and types of the IR, from lir/value.rs: fourteen kinds of value, twelve types, what the instructions that only
+// compute do with them, and their bytes.
+pub mod refusal;
+
+// A Roto value. A `Single` or a `Double` stands where the Rust has an f32 or an f64, so that every NaN keeps its bits.
+pub enum IrValue {
+    Bool(bool),
+    U8(u8),
+    U16(u16),
+    U32(u32),
+    U64(u64),
+    I8(i8),
+    I16(i16),
+    I32(i32),
+    I64(i64),
+    F32(Single),
+    F64(Double),
+    Char(u32),
+    Asn(u32),
+    Pointer(u64),
+}
+
+pub enum Single {
+    Number(f32),
+    Nan(u32),
+}
+
+pub enum Double {
+    Number(f64),
+    Nan(u64),
+}
+
+// The types for `IrValue`s.
+pub enum IrType {
+    Bool,
+    U8,
+    U16,
+    U32,
+    U64,
+    I8,
+    I16,
+    I32,
+    I64,
+    F32,
+    F64,
+    Pointer,
+}
