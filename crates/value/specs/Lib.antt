@@ -2,3 +2,5 @@ pub mod Refusal
 pub mod Answer
 pub mod Divide
 pub mod Value
+pub mod Floats
+pub mod Ir

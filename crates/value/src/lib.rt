@@ -45,3 +45,9 @@ pub enum IrType {
     F64,
     Pointer,
 }
+
+// What an operation answers: its value, or the number of the first of its checks that fails.
+pub enum Computed {
+    Value(IrValue),
+    Refused(u64),
+}

@@ -1,0 +1,53 @@
+-- The code's own values, types and answers, as the values, kinds and answers that the definitions speak of.
+use Prim.Native.Nat.{ℕ}
+use mathlib.Core.Bool as B
+use lib.Dec.{eqb}
+use Rattle.value.specs.Answer.{Answer, ok, refused, pick}
+use Rattle.value.specs.Floats.{bits32, bits64, single, double}
+use Rattle.value.specs.Value.{Kind, Value, value, integer, bitsOf, bool, u8, u16, u32, u64, i8, i16, i32, i64, f32, f64, char, asn, pointer}
+use Rattle.value.specs.declared.IrValue.{IrValue}
+use Rattle.value.specs.declared.IrValue.the-variants.{Bool, U8, U16, U32, U64, I8, I16, I32, I64, F32, F64, Char, Asn, Pointer}
+use Rattle.value.specs.declared.Computed.{Computed}
+use Rattle.value.specs.declared.Computed.the-variants as C
+
+-- a value's kind and bits: two's complement where the kind is signed, the pattern where it is a float
+unfoldable pub valueOf : IrValue → Value
+valueOf (Bool b) = value bool (pick b 1 0)
+valueOf (U8 n) = value u8 n
+valueOf (U16 n) = value u16 n
+valueOf (U32 n) = value u32 n
+valueOf (U64 n) = value u64 n
+valueOf (I8 z) = value i8 (bitsOf i8 z)
+valueOf (I16 z) = value i16 (bitsOf i16 z)
+valueOf (I32 z) = value i32 (bitsOf i32 z)
+valueOf (I64 z) = value i64 (bitsOf i64 z)
+valueOf (F32 x) = value f32 (bits32 x)
+valueOf (F64 x) = value f64 (bits64 x)
+valueOf (Char n) = value char n
+valueOf (Asn n) = value asn n
+valueOf (Pointer n) = value pointer n
+
+-- the value of a kind and bits: a NaN's pattern is kept as it is
+unfoldable pub irOf : Kind → ℕ → IrValue
+irOf bool b = Bool (B.not (eqb b 0))
+irOf u8 b = U8 b
+irOf u16 b = U16 b
+irOf u32 b = U32 b
+irOf u64 b = U64 b
+irOf i8 b = I8 (integer (value i8 b))
+irOf i16 b = I16 (integer (value i16 b))
+irOf i32 b = I32 (integer (value i32 b))
+irOf i64 b = I64 (integer (value i64 b))
+irOf f32 b = F32 (single b)
+irOf f64 b = F64 (double b)
+irOf char b = Char b
+irOf asn b = Asn b
+irOf pointer b = Pointer b
+
+abbrev pub irValue : Value → IrValue
+irValue v = irOf (v .kind) (v .bits)
+
+-- what an operation answers: its value, or the refusal
+unfoldable pub computed : Answer Value → Computed
+computed (ok v) = C.Value (irValue v)
+computed (refused n) = C.Refused n
