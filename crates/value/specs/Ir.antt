@@ -1,12 +1,17 @@
 -- The code's own values, types and answers, as the values, kinds and answers that the definitions speak of.
 use Prim.Native.Nat.{ℕ}
 use mathlib.Core.Bool as B
+use mathlib.Core.Option.{Option, none, some}
 use lib.Dec.{eqb}
 use Rattle.value.specs.Answer.{Answer, ok, refused, pick}
 use Rattle.value.specs.Floats.{bits32, bits64, single, double}
 use Rattle.value.specs.Value.{Kind, Value, value, integer, bitsOf, bool, u8, u16, u32, u64, i8, i16, i32, i64, f32, f64, char, asn, pointer}
 use Rattle.value.specs.declared.IrValue.{IrValue}
 use Rattle.value.specs.declared.IrValue.the-variants.{Bool, U8, U16, U32, U64, I8, I16, I32, I64, F32, F64, Char, Asn, Pointer}
+use Rattle.value.specs.Value as Believed
+use Rattle.value.specs.declared.IrType as T
+use Rattle.value.specs.declared.Tagged.{Tagged}
+use Rattle.value.specs.declared.Tagged.the-variants as Tg
 use Rattle.value.specs.declared.Computed.{Computed}
 use Rattle.value.specs.declared.Computed.the-variants as C
 
@@ -46,6 +51,40 @@ irOf pointer b = Pointer b
 
 abbrev pub irValue : Value → IrValue
 irValue v = irOf (v .kind) (v .bits)
+
+-- the code's types, and the definitions'
+unfoldable pub typeOf : T.IrType → Believed.IrType
+typeOf T.the-variants.Bool = Believed.Boolean
+typeOf T.the-variants.U8 = Believed.U8
+typeOf T.the-variants.U16 = Believed.U16
+typeOf T.the-variants.U32 = Believed.U32
+typeOf T.the-variants.U64 = Believed.U64
+typeOf T.the-variants.I8 = Believed.I8
+typeOf T.the-variants.I16 = Believed.I16
+typeOf T.the-variants.I32 = Believed.I32
+typeOf T.the-variants.I64 = Believed.I64
+typeOf T.the-variants.F32 = Believed.F32
+typeOf T.the-variants.F64 = Believed.F64
+typeOf T.the-variants.Pointer = Believed.Pointer
+
+unfoldable pub irType : Believed.IrType → T.IrType
+irType Believed.Boolean = T.the-variants.Bool
+irType Believed.U8 = T.the-variants.U8
+irType Believed.U16 = T.the-variants.U16
+irType Believed.U32 = T.the-variants.U32
+irType Believed.U64 = T.the-variants.U64
+irType Believed.I8 = T.the-variants.I8
+irType Believed.I16 = T.the-variants.I16
+irType Believed.I32 = T.the-variants.I32
+irType Believed.I64 = T.the-variants.I64
+irType Believed.F32 = T.the-variants.F32
+irType Believed.F64 = T.the-variants.F64
+irType Believed.Pointer = T.the-variants.Pointer
+
+-- the type that a tag names, or none
+unfoldable pub tagged : Option Believed.IrType → Tagged
+tagged none = Tg.Nothing
+tagged (some t) = Tg.Type (irType t)
 
 -- what an operation answers: its value, or the refusal
 unfoldable pub computed : Answer Value → Computed

@@ -1,6 +1,8 @@
 // Values and types of the IR, from lir/value.rs: fourteen kinds of value, twelve types, what the instructions that only
 // compute do with them, and their bytes.
+pub mod kind;
 pub mod refusal;
+mod signed;
 
 // A Roto value. A `Single` or a `Double` stands where the Rust has an f32 or an f64, so that every NaN keeps its bits.
 pub enum IrValue {
@@ -50,4 +52,10 @@ pub enum IrType {
 pub enum Computed {
     Value(IrValue),
     Refused(u64),
+}
+
+// What a tag names.
+pub enum Tagged {
+    Type(IrType),
+    Nothing,
 }

@@ -1,0 +1,62 @@
+-- Tags and bits: which number names which kind, and which bits are a value's.
+use Prim.Native.Nat.{ℕ, _^_}
+use mathlib.Core.Bool.{Bool}
+use mathlib.Core.List.{List, [], _∷_}
+use mathlib.Core.Option.{Option, none, some}
+use lib.Dec.{ltb, eqb}
+use Rattle.value.specs.Answer.{pick}
+use Rattle.value.specs.Value.{Kind, IrType, tag, width, isScalar, bool, u8, u16, u32, u64, i8, i16, i32, i64, f32, f64, char, asn, pointer}
+use Rattle.value.specs.Value as Believed
+
+-- the kind of the list that has this tag
+unfoldable pub named : List Kind → ℕ → Option Kind
+named [] n = none
+named (k ∷ ks) n = pick (eqb n (tag k)) (some k) (named ks n)
+
+abbrev pub kinds : List Kind
+kinds = bool ∷ u8 ∷ u16 ∷ u32 ∷ u64 ∷ i8 ∷ i16 ∷ i32 ∷ i64 ∷ f32 ∷ f64 ∷ char ∷ asn ∷ pointer ∷ []
+
+unfoldable pub kindAt : ℕ → Option Kind
+kindAt n = named kinds n
+
+-- "A type is such a tag without 0, 12, 13."
+unfoldable pub typeOfKind : Kind → Option IrType
+typeOfKind bool = some Believed.Boolean
+typeOfKind u8 = some Believed.U8
+typeOfKind u16 = some Believed.U16
+typeOfKind u32 = some Believed.U32
+typeOfKind u64 = some Believed.U64
+typeOfKind i8 = some Believed.I8
+typeOfKind i16 = some Believed.I16
+typeOfKind i32 = some Believed.I32
+typeOfKind i64 = some Believed.I64
+typeOfKind f32 = some Believed.F32
+typeOfKind f64 = some Believed.F64
+typeOfKind char = none
+typeOfKind asn = none
+typeOfKind pointer = some Believed.Pointer
+
+-- the type with this tag
+unfoldable pub typed : Option Kind → Option IrType
+typed none = none
+typed (some k) = typeOfKind k
+
+abbrev pub typeAt : ℕ → Option IrType
+typeAt n = typed (kindAt n)
+
+-- the bits of a value lie below 2 ^ width; a Bool's are 0 or 1, and a Char's are a scalar value
+unfoldable pub holds : Kind → ℕ → Bool
+holds bool b = ltb b 2
+holds char b = isScalar b
+holds u8 b = ltb b (2 ^ 8)
+holds u16 b = ltb b (2 ^ 16)
+holds u32 b = ltb b (2 ^ 32)
+holds u64 b = ltb b (2 ^ 64)
+holds i8 b = ltb b (2 ^ 8)
+holds i16 b = ltb b (2 ^ 16)
+holds i32 b = ltb b (2 ^ 32)
+holds i64 b = ltb b (2 ^ 64)
+holds f32 b = ltb b (2 ^ 32)
+holds f64 b = ltb b (2 ^ 64)
+holds asn b = ltb b (2 ^ 32)
+holds pointer b = ltb b (2 ^ 64)
