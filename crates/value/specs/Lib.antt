@@ -5,3 +5,4 @@ pub mod Value
 pub mod Tags
 pub mod Floats
 pub mod Ir
+pub mod Orders

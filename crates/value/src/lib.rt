@@ -1,5 +1,6 @@
 // Values and types of the IR, from lir/value.rs: fourteen kinds of value, twelve types, what the instructions that only
 // compute do with them, and their bytes.
+pub mod float;
 pub mod kind;
 pub mod refusal;
 mod signed;
@@ -58,4 +59,12 @@ pub enum Computed {
 pub enum Tagged {
     Type(IrType),
     Nothing,
+}
+
+// What one number is to another.
+pub enum Order {
+    Less,
+    Equal,
+    Greater,
+    Unordered,
 }
