@@ -1,5 +1,6 @@
 pub mod Complement
 pub mod Tags
+pub mod Roundtrip
 pub mod Patterns
 pub mod Rounding
 pub mod Fields

@@ -1,17 +1,24 @@
 -- The code's own values, types and answers, as the values, kinds and answers that the definitions speak of.
-use Prim.Native.Nat.{ℕ}
+use Prim.Native.Nat.{ℕ, _^_}
 use mathlib.Core.Bool as B
+use mathlib.Core.Bool.{_&&_}
 use mathlib.Core.Option.{Option, none, some}
-use lib.Dec.{eqb}
+use lib.Dec.{eqb, ltb}
+use lib.Ieee.{binary32, binary64, fits, isNan, nanBits}
 use Rattle.value.specs.Answer.{Answer, ok, refused, pick}
 use Rattle.value.specs.Floats.{bits32, bits64, single, double}
-use Rattle.value.specs.Value.{Kind, Value, value, integer, bitsOf, bool, u8, u16, u32, u64, i8, i16, i32, i64, f32, f64, char, asn, pointer}
+use Rattle.value.specs.Tags.{holds}
+use Rattle.value.specs.Value.{Kind, Value, value, integer, bitsOf, within, signed, bool, u8, u16, u32, u64, i8, i16, i32, i64, f32, f64, char, asn, pointer}
 use Rattle.value.specs.declared.IrValue.{IrValue}
 use Rattle.value.specs.declared.IrValue.the-variants.{Bool, U8, U16, U32, U64, I8, I16, I32, I64, F32, F64, Char, Asn, Pointer}
 use Rattle.value.specs.Value as Believed
 use Rattle.value.specs.declared.IrType as T
 use Rattle.value.specs.declared.Tagged.{Tagged}
 use Rattle.value.specs.declared.Tagged.the-variants as Tg
+use Rattle.value.specs.declared.Single as S
+use Rattle.value.specs.declared.Double as D
+use Rattle.value.specs.declared.Made.{Made}
+use Rattle.value.specs.declared.Made.the-variants as M
 use Rattle.value.specs.declared.Computed.{Computed}
 use Rattle.value.specs.declared.Computed.the-variants as C
 
@@ -51,6 +58,36 @@ irOf pointer b = Pointer b
 
 abbrev pub irValue : Value → IrValue
 irValue v = irOf (v .kind) (v .bits)
+
+-- the value of a tag's kind and bits, where there is one
+unfoldable pub made : Option Kind → ℕ → Made
+made none b = M.Nothing
+made (some k) b = pick (holds k b) (M.Value (irOf k b)) M.Nothing
+
+-- A value that is some kind's and bits'. The enum holds more: a `Number` that is a NaN, a `Nan` with a number's bits, a Char that is no scalar value.
+abbrev pub ownSingle : S.Single → B.Bool
+ownSingle (S.the-variants.Number x) = fits binary32 x && B.not (isNan x)
+ownSingle (S.the-variants.Nan b) = nanBits binary32 b && ltb b (2 ^ 32)
+
+abbrev pub ownDouble : D.Double → B.Bool
+ownDouble (D.the-variants.Number x) = fits binary64 x && B.not (isNan x)
+ownDouble (D.the-variants.Nan b) = nanBits binary64 b && ltb b (2 ^ 64)
+
+unfoldable pub own : IrValue → B.Bool
+own (Bool b) = B.true
+own (U8 n) = holds u8 n
+own (U16 n) = holds u16 n
+own (U32 n) = holds u32 n
+own (U64 n) = holds u64 n
+own (I8 z) = within signed 8 z
+own (I16 z) = within signed 16 z
+own (I32 z) = within signed 32 z
+own (I64 z) = within signed 64 z
+own (F32 x) = ownSingle x
+own (F64 x) = ownDouble x
+own (Char n) = holds char n
+own (Asn n) = holds asn n
+own (Pointer n) = holds pointer n
 
 -- the code's types, and the definitions'
 unfoldable pub typeOf : T.IrType → Believed.IrType

@@ -1,6 +1,6 @@
 -- Tags and bits: which number names which kind, and which bits are a value's.
 use Prim.Native.Nat.{ℕ, _^_}
-use mathlib.Core.Bool.{Bool}
+use mathlib.Core.Bool.{Bool, false}
 use mathlib.Core.List.{List, [], _∷_}
 use mathlib.Core.Option.{Option, none, some}
 use lib.Dec.{ltb, eqb}
@@ -60,3 +60,8 @@ holds f32 b = ltb b (2 ^ 32)
 holds f64 b = ltb b (2 ^ 64)
 holds asn b = ltb b (2 ^ 32)
 holds pointer b = ltb b (2 ^ 64)
+
+-- "a value too large for its width or kind", or of no kind at all, is none
+unfoldable pub held : Option Kind → ℕ → Bool
+held none b = false
+held (some k) b = holds k b

@@ -1,5 +1,6 @@
 // Values and types of the IR, from lir/value.rs: fourteen kinds of value, twelve types, what the instructions that only
 // compute do with them, and their bytes.
+pub mod bits;
 pub mod float;
 pub mod kind;
 pub mod refusal;
@@ -58,6 +59,12 @@ pub enum Computed {
 // What a tag names.
 pub enum Tagged {
     Type(IrType),
+    Nothing,
+}
+
+// What a tag and bits are.
+pub enum Made {
+    Value(IrValue),
     Nothing,
 }
 
