@@ -1,6 +1,7 @@
 pub mod Complement
 pub mod Tags
 pub mod Roundtrip
+pub mod LowFirst
 pub mod Patterns
 pub mod Rounding
 pub mod Fields

@@ -3,12 +3,14 @@ use Prim.Native.Nat.{ℕ, _^_}
 use mathlib.Core.Bool as B
 use mathlib.Core.Bool.{_&&_}
 use mathlib.Core.Option.{Option, none, some}
-use lib.Dec.{eqb, ltb}
+use mathlib.Core.List.{List, _++_}
+use lib.ListN.{length, take, drop}
+use lib.Dec.{eqb, ltb, leb}
 use lib.Ieee.{binary32, binary64, fits, isNan, nanBits}
 use Rattle.value.specs.Answer.{Answer, ok, refused, pick}
 use Rattle.value.specs.Floats.{bits32, bits64, single, double}
 use Rattle.value.specs.Tags.{holds}
-use Rattle.value.specs.Value.{Kind, Value, value, integer, bitsOf, within, signed, bool, u8, u16, u32, u64, i8, i16, i32, i64, f32, f64, char, asn, pointer}
+use Rattle.value.specs.Value.{Kind, Value, value, kindOf, size, fromBytes, integer, bitsOf, within, signed, bool, u8, u16, u32, u64, i8, i16, i32, i64, f32, f64, char, asn, pointer}
 use Rattle.value.specs.declared.IrValue.{IrValue}
 use Rattle.value.specs.declared.IrValue.the-variants.{Bool, U8, U16, U32, U64, I8, I16, I32, I64, F32, F64, Char, Asn, Pointer}
 use Rattle.value.specs.Value as Believed
@@ -19,6 +21,8 @@ use Rattle.value.specs.declared.Single as S
 use Rattle.value.specs.declared.Double as D
 use Rattle.value.specs.declared.Made.{Made}
 use Rattle.value.specs.declared.Made.the-variants as M
+use Rattle.value.specs.declared.Loaded.{Loaded}
+use Rattle.value.specs.declared.Loaded.the-variants as L
 use Rattle.value.specs.declared.Computed.{Computed}
 use Rattle.value.specs.declared.Computed.the-variants as C
 
@@ -127,3 +131,17 @@ tagged (some t) = Tg.Type (irType t)
 unfoldable pub computed : Answer Value → Computed
 computed (ok v) = C.Value (irValue v)
 computed (refused n) = C.Refused n
+
+-- ---- bytes
+
+-- these bytes go to the front of others; where they are too few, none does
+abbrev pub written : List ℕ → List ℕ → List ℕ
+written bs to = pick (leb (length bs) (length to)) (bs ++ drop (length bs) to) to
+
+unfoldable pub answered : Answer Value → Loaded
+answered (ok v) = L.Value (irValue v)
+answered (refused n) = L.Refused n
+
+-- the value of a type at the front of these bytes, where they are enough
+unfoldable pub loaded : Believed.IrType → List ℕ → Loaded
+loaded t bs = let n = size (kindOf t) in pick (leb n (length bs)) (answered (fromBytes t (take n bs))) L.Short

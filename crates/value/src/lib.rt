@@ -1,6 +1,7 @@
 // Values and types of the IR, from lir/value.rs: fourteen kinds of value, twelve types, what the instructions that only
 // compute do with them, and their bytes.
 pub mod bits;
+pub mod bytes;
 pub mod float;
 pub mod kind;
 pub mod refusal;
@@ -66,6 +67,13 @@ pub enum Tagged {
 pub enum Made {
     Value(IrValue),
     Nothing,
+}
+
+// What bytes are: a value, a refusal, or too few.
+pub enum Loaded {
+    Value(IrValue),
+    Refused(u64),
+    Short,
 }
 
 // What one number is to another.
