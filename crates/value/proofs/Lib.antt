@@ -2,6 +2,8 @@ pub mod Complement
 pub mod Tags
 pub mod Roundtrip
 pub mod LowFirst
+pub mod Leftover
+pub mod Comparing
 pub mod Patterns
 pub mod Rounding
 pub mod Fields

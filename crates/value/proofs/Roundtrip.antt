@@ -84,7 +84,7 @@ within-fits : (w : Width) (v : ℕ) (z : ℤ) → v - 1 ≡ hbits w → within s
 within-fits w v (pos n) e h = record { sfits = subst (λ (j : ℕ). n < 2 ^ j) e (ltb-true n _ h) }
 within-fits w v (negsuc n) e h = record { sfits = subst (λ (j : ℕ). n < 2 ^ j) e (ltb-true n _ h) }
 
-signed-back : (w : Width) (k : Kind) (z : ℤ) → bits w ≡ width k → (pick (leb (2 ^ hbits w) (bitsOf k z)) (pos (bitsOf k z) -ℤ pos (2 ^ bits w)) (pos (bitsOf k z))) ≡ integer (value k (bitsOf k z)) → SFits w z → integer (value k (bitsOf k z)) ≡ z
+pub signed-back : (w : Width) (k : Kind) (z : ℤ) → bits w ≡ width k → (pick (leb (2 ^ hbits w) (bitsOf k z)) (pos (bitsOf k z) -ℤ pos (2 ^ bits w)) (pos (bitsOf k z))) ≡ integer (value k (bitsOf k z)) → SFits w z → integer (value k (bitsOf k z)) ≡ z
 signed-back w k z e i h =
     let f = subst (λ (b : ℕ). b < 2 ^ bits w) (bits-are w k e z) (ofZ-fits w z h .fits) in
     sym i ∙ reading w (bitsOf k z) f ∙ ap (toZ w) (sym (bits-are w k e z)) ∙ toZ-ofZ w z h

@@ -44,6 +44,13 @@ pub tag-of-kind : (n : ℕ) (k : Kind) → kindAt n ≡ some k → tag k ≡ n
 unfolding kindAt
 tag-of-kind n k h = named-tag kinds n k h
 
+-- two kinds with one tag are one
+pub tags-equal : {j k : Kind} → tag j ≡ tag k → j ≡ k
+tags-equal {j} {k} e = same-some (sym (kind-of-tag j) ∙ ap kindAt e ∙ kind-of-tag k)
+  where
+    same-some : some j ≡ some k → j ≡ k
+    same-some e = cc
+
 -- of a number that is k's tag
 module _ (k : Kind) (b : ℕ) {n : ℕ} (e : n ≡ tag k) where
   pub held-at : held (kindAt n) b ≡ holds k b

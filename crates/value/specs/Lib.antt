@@ -6,3 +6,4 @@ pub mod Tags
 pub mod Floats
 pub mod Ir
 pub mod Orders
+pub mod Compare

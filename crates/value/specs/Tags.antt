@@ -4,8 +4,9 @@ use mathlib.Core.Bool.{Bool, false}
 use mathlib.Core.List.{List, [], _∷_}
 use mathlib.Core.Option.{Option, none, some}
 use lib.Dec.{ltb, eqb}
+use lib.ListN.{getD}
 use Rattle.value.specs.Answer.{pick}
-use Rattle.value.specs.Value.{Kind, IrType, tag, width, isScalar, bool, u8, u16, u32, u64, i8, i16, i32, i64, f32, f64, char, asn, pointer}
+use Rattle.value.specs.Value.{Kind, IrType, IntCmp, FloatCmp, tag, width, isScalar, bool, u8, u16, u32, u64, i8, i16, i32, i64, f32, f64, char, asn, pointer}
 use Rattle.value.specs.Value as Believed
 
 -- the kind of the list that has this tag
@@ -65,3 +66,16 @@ holds pointer b = ltb b (2 ^ 64)
 unfoldable pub held : Option Kind → ℕ → Bool
 held none b = false
 held (some k) b = holds k b
+
+-- "comparison in source order (0..9, 0..5)"
+abbrev pub intCmps : List (Option IntCmp)
+intCmps = some IntCmp.Eq ∷ some IntCmp.Ne ∷ some IntCmp.ULt ∷ some IntCmp.ULe ∷ some IntCmp.UGt ∷ some IntCmp.UGe ∷ some IntCmp.SLt ∷ some IntCmp.SLe ∷ some IntCmp.SGt ∷ some IntCmp.SGe ∷ []
+
+abbrev pub floatCmps : List (Option FloatCmp)
+floatCmps = some FloatCmp.FEq ∷ some FloatCmp.FNe ∷ some FloatCmp.FLt ∷ some FloatCmp.FLe ∷ some FloatCmp.FGt ∷ some FloatCmp.FGe ∷ []
+
+unfoldable pub intCmpAt : ℕ → Option IntCmp
+intCmpAt n = getD intCmps n none
+
+unfoldable pub floatCmpAt : ℕ → Option FloatCmp
+floatCmpAt n = getD floatCmps n none

@@ -2,6 +2,8 @@
 // compute do with them, and their bytes.
 pub mod bits;
 pub mod bytes;
+pub mod compare;
+mod family;
 pub mod float;
 pub mod kind;
 pub mod refusal;
@@ -82,4 +84,71 @@ pub enum Order {
     Equal,
     Greater,
     Unordered,
+}
+
+// A test of an order.
+pub enum Test {
+    Eq,
+    Ne,
+    Lt,
+    Le,
+    Gt,
+    Ge,
+}
+
+// The comparisons of IntCmp and of FloatCmp, in the order of their numbers.
+pub enum IntCmp {
+    Eq,
+    Ne,
+    ULt,
+    ULe,
+    UGt,
+    UGe,
+    SLt,
+    SLe,
+    SGt,
+    SGe,
+}
+
+pub enum FloatCmp {
+    Eq,
+    Ne,
+    Lt,
+    Le,
+    Gt,
+    Ge,
+}
+
+// What a number names.
+pub enum IntComparison {
+    Is(IntCmp),
+    Nothing,
+}
+
+pub enum FloatComparison {
+    Is(FloatCmp),
+    Nothing,
+}
+
+// The number of a value of the unsigned family, or of the signed.
+pub enum AsU64 {
+    Is(u64),
+    Other,
+}
+
+pub enum AsI64 {
+    Is(i64),
+    Other,
+}
+
+// What Switch examines, or a refusal.
+pub enum Switched {
+    On(u64),
+    Refused(u64),
+}
+
+// A Bool's own truth, or a refusal.
+pub enum Truth {
+    Is(bool),
+    Refused(u64),
 }

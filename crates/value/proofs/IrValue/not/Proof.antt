@@ -1,0 +1,20 @@
+-- `not`: a Bool is itself, and no other value has one.
+use borrow.Author.Needs.{needs}
+use mathlib.Core.List.{[], _∷_}
+use Rattle.value.specs.Value.{same, tag, bool}
+use Rattle.value.specs.Ir.{valueOf}
+use Rattle.value.proofs.Arms.{rest}
+use Rattle.value.proofs.Leftover.{left-over}
+use Rattle.value.proofs.Comparing.{not-is, no-not}
+use Rattle.value.proofs.IrValue.not.Statement.{statement}
+use Rattle.value.proofs.IrValue.not.Tie as tie
+
+returns : tie.Need-returns
+unfolding tag
+returns c = no-not (valueOf (c .before .args .self)) (left-over (λ k. same k bool) (rest (0 ∷ [])) (c .before .args .self) tt (c .match .keys2))
+
+returns-2 : tie.Need-returns-2
+returns-2 c = not-is _ (c .before .self .given .1)
+
+pub not-spec : {M : Type 1} → statement M
+not-spec = tie.close (tie.spec (λ c. search needs) returns returns-2)

@@ -1,0 +1,102 @@
+-- The code's comparisons, orders and tests, and the definitions'.
+use Prim.Native.Nat.{ℕ}
+use mathlib.Core.Bool.{Bool, not}
+use mathlib.Core.Option.{Option, none, some}
+use lib.Dec.{eqb}
+use Rattle.value.specs.Answer.{Answer, ok, refused, need, pick}
+use Rattle.value.specs.Refusal.{wrongKinds}
+use Rattle.value.specs.Value.{Value, family, isUnsigned, isSigned, integer, same, bool}
+use Rattle.value.specs.Value as Believed
+use Rattle.value.specs.declared.IntCmp as I
+use Rattle.value.specs.declared.FloatCmp as F
+use Rattle.value.specs.declared.IntComparison as Ic
+use Rattle.value.specs.declared.FloatComparison as Fc
+use Rattle.value.specs.declared.Order as O
+use Rattle.value.specs.declared.Test as T
+use Rattle.value.specs.declared.AsU64 as U
+use Rattle.value.specs.declared.AsI64 as S
+use Rattle.value.specs.declared.Switched as W
+use Rattle.value.specs.declared.Truth as B
+
+unfoldable pub intCmpOf : I.IntCmp → Believed.IntCmp
+intCmpOf I.the-variants.Eq = Believed.Eq
+intCmpOf I.the-variants.Ne = Believed.Ne
+intCmpOf I.the-variants.ULt = Believed.ULt
+intCmpOf I.the-variants.ULe = Believed.ULe
+intCmpOf I.the-variants.UGt = Believed.UGt
+intCmpOf I.the-variants.UGe = Believed.UGe
+intCmpOf I.the-variants.SLt = Believed.SLt
+intCmpOf I.the-variants.SLe = Believed.SLe
+intCmpOf I.the-variants.SGt = Believed.SGt
+intCmpOf I.the-variants.SGe = Believed.SGe
+
+unfoldable pub irIntCmp : Believed.IntCmp → I.IntCmp
+irIntCmp Believed.Eq = I.the-variants.Eq
+irIntCmp Believed.Ne = I.the-variants.Ne
+irIntCmp Believed.ULt = I.the-variants.ULt
+irIntCmp Believed.ULe = I.the-variants.ULe
+irIntCmp Believed.UGt = I.the-variants.UGt
+irIntCmp Believed.UGe = I.the-variants.UGe
+irIntCmp Believed.SLt = I.the-variants.SLt
+irIntCmp Believed.SLe = I.the-variants.SLe
+irIntCmp Believed.SGt = I.the-variants.SGt
+irIntCmp Believed.SGe = I.the-variants.SGe
+
+unfoldable pub floatCmpOf : F.FloatCmp → Believed.FloatCmp
+floatCmpOf F.the-variants.Eq = Believed.FEq
+floatCmpOf F.the-variants.Ne = Believed.FNe
+floatCmpOf F.the-variants.Lt = Believed.FLt
+floatCmpOf F.the-variants.Le = Believed.FLe
+floatCmpOf F.the-variants.Gt = Believed.FGt
+floatCmpOf F.the-variants.Ge = Believed.FGe
+
+unfoldable pub irFloatCmp : Believed.FloatCmp → F.FloatCmp
+irFloatCmp Believed.FEq = F.the-variants.Eq
+irFloatCmp Believed.FNe = F.the-variants.Ne
+irFloatCmp Believed.FLt = F.the-variants.Lt
+irFloatCmp Believed.FLe = F.the-variants.Le
+irFloatCmp Believed.FGt = F.the-variants.Gt
+irFloatCmp Believed.FGe = F.the-variants.Ge
+
+-- the comparison that a number names, or none
+unfoldable pub intComparison : Option Believed.IntCmp → Ic.IntComparison
+intComparison none = Ic.the-variants.Nothing
+intComparison (some c) = Ic.the-variants.Is (irIntCmp c)
+
+unfoldable pub floatComparison : Option Believed.FloatCmp → Fc.FloatComparison
+floatComparison none = Fc.the-variants.Nothing
+floatComparison (some c) = Fc.the-variants.Is (irFloatCmp c)
+
+unfoldable pub orderOf : O.Order → Believed.Order
+orderOf O.the-variants.Less = Believed.less
+orderOf O.the-variants.Equal = Believed.equal
+orderOf O.the-variants.Greater = Believed.greater
+orderOf O.the-variants.Unordered = Believed.unordered
+
+unfoldable pub testOf : T.Test → Believed.Test
+testOf T.the-variants.Eq = Believed.eq
+testOf T.the-variants.Ne = Believed.ne
+testOf T.the-variants.Lt = Believed.lt
+testOf T.the-variants.Le = Believed.le
+testOf T.the-variants.Gt = Believed.gt
+testOf T.the-variants.Ge = Believed.ge
+
+-- the number of a value of the unsigned family, or of the signed
+unfoldable pub asUnsigned : Value → U.AsU64
+asUnsigned v = pick (isUnsigned (family (v .kind))) (U.the-variants.Is (v .bits)) U.the-variants.Other
+
+unfoldable pub asSigned : Value → S.AsI64
+asSigned v = pick (isSigned (family (v .kind))) (S.the-variants.Is (integer v)) S.the-variants.Other
+
+-- what Switch examines
+unfoldable pub switched : Answer ℕ → W.Switched
+switched (ok n) = W.the-variants.On n
+switched (refused n) = W.the-variants.Refused n
+
+-- a Bool's own truth; "wrong kinds for the instruction" else
+unfoldable pub asBool : Value → Answer Bool
+asBool v = need (same (v .kind) bool) wrongKinds (ok (not (eqb (v .bits) 0)))
+
+unfoldable pub truthOf : Answer Bool → B.Truth
+truthOf (ok b) = B.the-variants.Is b
+truthOf (refused n) = B.the-variants.Refused n
