@@ -10,3 +10,5 @@ pub mod Fields
 pub mod Arms
 pub mod Divided
 pub mod Reals
+pub mod Cases
+pub mod Settled

@@ -7,3 +7,4 @@ pub mod Floats
 pub mod Ir
 pub mod Orders
 pub mod Compare
+pub mod Cases
