@@ -20,7 +20,7 @@ bits-are w k e (pos n) = refl
 bits-are w k e (negsuc n) = ap (λ (j : ℕ). 2 ^ j - suc n) e
 
 -- -1 - x
-down : (n : ℕ) → negsuc 0 -ℤ pos n ≡ negsuc n
+pub down : (n : ℕ) → negsuc 0 -ℤ pos n ≡ negsuc n
 down zero = refl
 down (suc n) = ap negsuc (omega arith)
 
@@ -28,11 +28,11 @@ up : (n : ℕ) → negsuc 0 -ℤ negsuc n ≡ pos n
 up n = rw (le-ltb (suc n) 1 (omega arith)) (ap pos (omega arith))
 
 -- what `x < 0` tells
-below-zero : (x : ℤ) → ltZ x (pos 0) ≡ true → x ≡ negsuc (mag x)
+pub below-zero : (x : ℤ) → ltZ x (pos 0) ≡ true → x ≡ negsuc (mag x)
 below-zero (pos n) t = absurd (omega (arith, ltb-true n 0 t))
 below-zero (negsuc n) t = refl
 
-from-zero : (x : ℤ) → ltZ x (pos 0) ≡ false → x ≡ pos (mag x)
+pub from-zero : (x : ℤ) → ltZ x (pos 0) ≡ false → x ≡ pos (mag x)
 from-zero (pos n) t = refl
 from-zero (negsuc n) t = absurd (subst T t tt)
 
@@ -46,10 +46,10 @@ module _ (w : Width) (x : ℤ) (h : SFits w x) where
   pub in-sub : ltZ (toZ w (ofZ w x)) (pos 0) ≡ true → SFits w (negsuc 0 -ℤ toZ w (ofZ w x))
   in-sub t = subst (SFits w) (sym (turned t)) (record { sfits = h .sfits })
 
-  below : ltZ (toZ w (ofZ w x)) (pos 0) ≡ true → toZ w (ofZ w (negsuc 0 -ℤ toZ w (ofZ w x))) ≡ pos (mag x)
+  pub below : ltZ (toZ w (ofZ w x)) (pos 0) ≡ true → toZ w (ofZ w (negsuc 0 -ℤ toZ w (ofZ w x))) ≡ pos (mag x)
   below t = toZ-ofZ w _ (in-sub t) ∙ turned t
 
-  above : ltZ (toZ w (ofZ w x)) (pos 0) ≡ false → toZ w (ofZ w x) ≡ pos (mag x)
+  pub above : ltZ (toZ w (ofZ w x)) (pos 0) ≡ false → toZ w (ofZ w x) ≡ pos (mag x)
   above t = toZ-ofZ w x h ∙ from-zero x (subst (λ (y : ℤ). ltZ y (pos 0) ≡ false) (toZ-ofZ w x h) t)
 
   cast : (y : ℤ) → y ≡ pos (mag x) → T (nonNeg y) × Fits w (natAbs y)

@@ -12,3 +12,6 @@ pub mod Divided
 pub mod Reals
 pub mod Cases
 pub mod Settled
+pub mod Widths
+pub mod Wholes
+pub mod Arithmetic

@@ -8,3 +8,4 @@ pub mod Ir
 pub mod Orders
 pub mod Compare
 pub mod Cases
+pub mod Kernel

@@ -5,6 +5,7 @@ pub mod bytes;
 pub mod compare;
 mod family;
 pub mod float;
+pub mod integer;
 pub mod kind;
 pub mod refusal;
 mod signed;

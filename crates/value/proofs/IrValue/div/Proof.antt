@@ -1,0 +1,125 @@
+-- `IrValue::div`: two signed integers of one width by the machine's quotient, and any other two by their bits.
+use mathlib.Core.Path.{ap}
+use mathlib.Core.List.{[], _∷_}
+use Rattle.value.specs.Ir.{valueOf}
+use Rattle.value.specs.Value.{tag, i8, i16, i32, i64}
+use Rattle.value.specs.Value as Believed
+use Rattle.value.proofs.Arithmetic.{unlike, machine, no-sign}
+use Rattle.value.proofs.Arms.{rest, other-kind}
+use Rattle.value.proofs.Widths.{i8-is, i16-is, i32-is, i64-is}
+use borrow.Author.Needs.{needs}
+use Rattle.value.proofs.IrValue.div.Statement.{statement}
+use Rattle.value.proofs.IrValue.div.Tie as tie
+
+enum-known-self : tie.Need-enum-known-self
+enum-known-self c = search needs
+
+enum-known-other : tie.Need-enum-known-other
+enum-known-other c = search needs
+
+returns : tie.Need-returns
+unfolding valueOf tag
+returns c =
+    let A = c .before .before .before .before .args in
+    unlike Believed.div (valueOf (A .self)) (valueOf (A .other)) i8 (ap (λ v. valueOf v .kind) (c .before .before .self .given .1)) (other-kind (rest (5 ∷ [])) i8 (A .other) tt (c .match2 .keys2))
+
+div-i8-requires : tie.Need-div-i8-requires
+div-i8-requires c κs = search needs
+
+enum-known-self-2 : tie.Need-enum-known-self-2
+enum-known-self-2 c = search needs
+
+enum-known-other-2 : tie.Need-enum-known-other-2
+enum-known-other-2 c = search needs
+
+returns-2 : tie.Need-returns-2
+unfolding valueOf tag
+returns-2 c =
+    let A = c .before .before .before .before .args in
+    unlike Believed.div (valueOf (A .self)) (valueOf (A .other)) i16 (ap (λ v. valueOf v .kind) (c .before .before .self2 .given .1)) (other-kind (rest (6 ∷ [])) i16 (A .other) tt (c .match3 .keys2))
+
+div-i16-requires : tie.Need-div-i16-requires
+div-i16-requires c κs = search needs
+
+enum-known-self-3 : tie.Need-enum-known-self-3
+enum-known-self-3 c = search needs
+
+enum-known-other-3 : tie.Need-enum-known-other-3
+enum-known-other-3 c = search needs
+
+returns-3 : tie.Need-returns-3
+unfolding valueOf tag
+returns-3 c =
+    let A = c .before .before .before .before .args in
+    unlike Believed.div (valueOf (A .self)) (valueOf (A .other)) i32 (ap (λ v. valueOf v .kind) (c .before .before .self3 .given .1)) (other-kind (rest (7 ∷ [])) i32 (A .other) tt (c .match4 .keys2))
+
+div-i32-requires : tie.Need-div-i32-requires
+div-i32-requires c κs = search needs
+
+enum-known-self-4 : tie.Need-enum-known-self-4
+enum-known-self-4 c = search needs
+
+enum-known-other-4 : tie.Need-enum-known-other-4
+enum-known-other-4 c = search needs
+
+returns-4 : tie.Need-returns-4
+unfolding valueOf tag
+returns-4 c =
+    let A = c .before .before .before .before .args in
+    unlike Believed.div (valueOf (A .self)) (valueOf (A .other)) i64 (ap (λ v. valueOf v .kind) (c .before .before .self4 .given .1)) (other-kind (rest (8 ∷ [])) i64 (A .other) tt (c .match5 .keys2))
+
+div-i64-requires : tie.Need-div-i64-requires
+div-i64-requires c κs = search needs
+
+div-unsigned-requires : tie.Need-div-unsigned-requires
+div-unsigned-requires c κs = no-sign (c .before .args .self) (c .match .keys5)
+
+returns-5 : tie.Need-returns-5
+returns-5 c =
+    let A = c .before .before .before .before .before .before .before .args in
+    machine i8-is Believed.div (A .self) (A .other) {a = c .before .before .before .before .before .self .given .0 .0} {b = c .before .before .other .given .0 .0} (search needs) (search needs) (c .before .before .before .before .before .self .given .1) (c .before .before .other .given .1) (c .div-i8 .ensures)
+
+returns-6 : tie.Need-returns-6
+returns-6 c =
+    let A = c .before .before .before .before .before .before .before .args in
+    machine i16-is Believed.div (A .self) (A .other) {a = c .before .before .before .before .before .self2 .given .0 .0} {b = c .before .before .other2 .given .0 .0} (search needs) (search needs) (c .before .before .before .before .before .self2 .given .1) (c .before .before .other2 .given .1) (c .div-i16 .ensures)
+
+returns-7 : tie.Need-returns-7
+returns-7 c =
+    let A = c .before .before .before .before .before .before .before .args in
+    machine i32-is Believed.div (A .self) (A .other) {a = c .before .before .before .before .before .self3 .given .0 .0} {b = c .before .before .other3 .given .0 .0} (search needs) (search needs) (c .before .before .before .before .before .self3 .given .1) (c .before .before .other3 .given .1) (c .div-i32 .ensures)
+
+returns-8 : tie.Need-returns-8
+returns-8 c =
+    let A = c .before .before .before .before .before .before .before .args in
+    machine i64-is Believed.div (A .self) (A .other) {a = c .before .before .before .before .before .self4 .given .0 .0} {b = c .before .before .other4 .given .0 .0} (search needs) (search needs) (c .before .before .before .before .before .self4 .given .1) (c .before .before .other4 .given .1) (c .div-i64 .ensures)
+
+returns-9 : tie.Need-returns-9
+returns-9 c = search needs
+
+pub div-spec : {M : Type 1} → statement M
+div-spec =
+    tie.close
+    (tie.spec
+    enum-known-self
+    enum-known-other
+    returns
+    div-i8-requires
+    enum-known-self-2
+    enum-known-other-2
+    returns-2
+    div-i16-requires
+    enum-known-self-3
+    enum-known-other-3
+    returns-3
+    div-i32-requires
+    enum-known-self-4
+    enum-known-other-4
+    returns-4
+    div-i64-requires
+    div-unsigned-requires
+    returns-5
+    returns-6
+    returns-7
+    returns-8
+    returns-9)
