@@ -1,1 +1,6 @@
 pub mod Program
+pub mod Parse
+pub mod Number
+pub mod Fields
+pub mod Image
+pub mod Cases

@@ -1,0 +1,213 @@
+-- The grammar of an image, field by field in its order, and what it answers: the program, or the first refusal's number and place.
+use Prim.Native.Nat.{ℕ, zero, suc, _^_}
+use mathlib.Core.Bool.{Bool, true, false}
+use mathlib.Core.List.{List, [], _∷_, map}
+use mathlib.Core.Option.{Option, none, some}
+use lib.ListN.{length}
+use lib.Dec.{ltb, leb}
+use Rattle.value.specs.Answer.{pick}
+use Rattle.value.specs.Refusal.{unknown, overLimit, beyondCount}
+use Rattle.value.specs.Value.{Kind, IrType, IntCmp, FloatCmp, value, width, isScalar}
+use Rattle.image.specs.Parse.{Got, took, refused, Field, Placed, andThen, give, many, within, placed, _>>=_, _<$>_, one, two, three, four, five}
+use Rattle.image.specs.Number.{number}
+use Rattle.image.specs.Fields.{such, below, upTo, atMost, known, optional, listOf, raw, bytes, atEnd}
+use Rattle.image.specs.Program.{Program, Operand, literal, Slot, Branch, Declared, Item, Function, Instruction, Jump, Switch, Assign, ConstantAddress, Call, Return, IntCmp′, FloatCmp′, Add, Sub, Mul, Div, Mod, FDiv, Not, Negate, Offset, Initialize, Write, Read, Copy, Drop}
+
+-- "counts of variables (0..256), constants (0..64), functions (0..64), blocks (0..512)"
+pub record Counts : Type 0 where
+  pub variables : ℕ
+  pub constants : ℕ
+  pub functions : ℕ
+  pub blocks : ℕ
+
+-- a program with the place of each item's first byte
+pub record Image : Type 0 where
+  pub variables : ℕ
+  pub constants : List (Placed (List ℕ))
+  pub functions : List (Placed Function)
+  pub blocks : List (List (Placed Instruction))
+
+-- "a value too large for its width or kind"; "Char is 0..D7FF or E000..10FFFF hex."
+unfoldable pub fits : Kind → ℕ → Bool
+fits Kind.bool b = leb b 1
+fits Kind.u8 b = ltb b (2 ^ 8)
+fits Kind.u16 b = ltb b (2 ^ 16)
+fits Kind.u32 b = ltb b (2 ^ 32)
+fits Kind.u64 b = ltb b (2 ^ 64)
+fits Kind.i8 b = ltb b (2 ^ 8)
+fits Kind.i16 b = ltb b (2 ^ 16)
+fits Kind.i32 b = ltb b (2 ^ 32)
+fits Kind.i64 b = ltb b (2 ^ 64)
+fits Kind.f32 b = ltb b (2 ^ 32)
+fits Kind.f64 b = ltb b (2 ^ 64)
+fits Kind.char b = isScalar b
+fits Kind.asn b = ltb b (2 ^ 32)
+fits Kind.pointer b = ltb b (2 ^ 64)
+
+-- "1 Bool, 2 U8, 3 U16, 4 U32, 5 U64, 6 I8, 7 I16, 8 I32, 9 I64, 10 F32, 11 F64, 12 Char, 13 Asn, 14 Pointer"
+abbrev pub kinds : List Kind
+kinds = Kind.bool ∷ Kind.u8 ∷ Kind.u16 ∷ Kind.u32 ∷ Kind.u64 ∷ Kind.i8 ∷ Kind.i16 ∷ Kind.i32 ∷ Kind.i64 ∷ Kind.f32 ∷ Kind.f64 ∷ Kind.char ∷ Kind.asn ∷ Kind.pointer ∷ []
+
+-- "A type is such a tag without 0, 12, 13."
+abbrev pub types : List (Option IrType)
+types = none ∷ some IrType.Boolean ∷ some IrType.U8 ∷ some IrType.U16 ∷ some IrType.U32 ∷ some IrType.U64 ∷ some IrType.I8 ∷ some IrType.I16 ∷ some IrType.I32 ∷ some IrType.I64 ∷ some IrType.F32 ∷ some IrType.F64 ∷ none ∷ none ∷ some IrType.Pointer ∷ []
+
+-- "comparison in source order (0..9, 0..5)"
+abbrev pub intCmps : List (Option IntCmp)
+intCmps = some IntCmp.Eq ∷ some IntCmp.Ne ∷ some IntCmp.ULt ∷ some IntCmp.ULe ∷ some IntCmp.UGt ∷ some IntCmp.UGe ∷ some IntCmp.SLt ∷ some IntCmp.SLe ∷ some IntCmp.SGt ∷ some IntCmp.SGe ∷ []
+
+abbrev pub floatCmps : List (Option FloatCmp)
+floatCmps = some FloatCmp.FEq ∷ some FloatCmp.FNe ∷ some FloatCmp.FLt ∷ some FloatCmp.FLe ∷ some FloatCmp.FGt ∷ some FloatCmp.FGe ∷ []
+
+abbrev pub versions : List (Option ℕ)
+versions = none ∷ some 1 ∷ []
+
+abbrev pub flags : List (Option Bool)
+flags = some false ∷ some true ∷ []
+
+-- "kind (0 function, 1 constant item)"
+abbrev pub items : List (Option Item)
+items = some Item.function ∷ some Item.constantItem ∷ []
+
+-- "A constant item has flag 1 (else 3) and no parameters (else 4)."
+abbrev pub flagsOf : Item → List (Option Bool)
+flagsOf Item.function = flags
+flagsOf Item.constantItem = none ∷ some true ∷ []
+
+abbrev pub mostParameters : Item → ℕ
+mostParameters Item.function = 16
+mostParameters Item.constantItem = 0
+
+-- the fields of the image whose bytes are s
+module _ (s : List ℕ) where
+  -- "Header: version 1, then counts of variables (0..256), constants (0..64), functions (0..64), blocks (0..512)."
+  unfoldable pub header : Field Counts
+  header = do
+    version ← known s versions
+    variables ← atMost s 256
+    constants ← atMost s 64
+    functions ← atMost s 64
+    blocks ← atMost s 512
+    give (record { variables = variables; constants = constants; functions = functions; blocks = blocks })
+
+  unfoldable pub literalOf : Kind → Field Operand
+  literalOf k = one (λ b. literal (value k b)) (such s (fits k) unknown)
+
+  -- "a u32"
+  unfoldable pub u32 : Field ℕ
+  u32 = below s (2 ^ 32) unknown
+
+  -- a size, of a slot or of Initialize
+  unfoldable pub size : Field ℕ
+  size = atMost s 32768
+
+  unfoldable pub type : Field IrType
+  type = known s types
+
+  module _ (n : Counts) where
+    -- "5 a variable, label, constant or function beyond its count"
+    unfoldable pub var : Field ℕ
+    var = below s (n .variables) beyondCount
+
+    unfoldable pub label : Field ℕ
+    label = below s (n .blocks) beyondCount
+
+    unfoldable pub constant : Field ℕ
+    constant = below s (n .constants) beyondCount
+
+    unfoldable pub callee : Field ℕ
+    callee = below s (n .functions) beyondCount
+
+    -- "Operand: tag 0 and a variable, or a value's tag and its bits as an unsigned number"
+    unfoldable pub operand : Field Operand
+    operand = do
+      form ← known s (some (one Operand.variable var) ∷ map (λ k. some (literalOf k)) kinds)
+      form
+
+    unfoldable pub slot : Field Slot
+    slot = two (λ v z. record { var = v; size = z }) var size
+
+    unfoldable pub branch : Field Branch
+    branch = two (λ v l. record { number = v; label = l }) (number s) label
+
+    unfoldable pub declared : Field Declared
+    declared = two (λ v t. record { to = v; type = t }) var type
+
+    -- "One table gives each opcode's fields, opcodes 0 to 21."
+    unfoldable pub table : List (Option (Field Instruction))
+    table =
+        some (one Jump label)
+        ∷ some (three Switch operand (listOf s 64 branch) label)
+        ∷ some (three Assign var operand type)
+        ∷ some (two ConstantAddress var constant)
+        ∷ some (five Call (optional s declared) (optional s operand) callee (listOf s 16 operand) (optional s var))
+        ∷ some (one Return (optional s operand))
+        ∷ some (four IntCmp′ var (known s intCmps) operand operand)
+        ∷ some (four FloatCmp′ var (known s floatCmps) operand operand)
+        ∷ some (three Add var operand operand)
+        ∷ some (three Sub var operand operand)
+        ∷ some (three Mul var operand operand)
+        ∷ some (four Div var (known s flags) operand operand)
+        ∷ some (four Mod var (known s flags) operand operand)
+        ∷ some (three FDiv var operand operand)
+        ∷ some (two Not var operand)
+        ∷ some (two Negate var operand)
+        ∷ some (three Offset var operand u32)
+        ∷ some (three Initialize var size (bytes s 256))
+        ∷ some (two Write operand operand)
+        ∷ some (three Read var operand type)
+        ∷ some (three Copy operand operand u32)
+        ∷ some (one Drop operand)
+        ∷ []
+
+    unfoldable pub instruction : Field Instruction
+    instruction = do
+      fields ← known s table
+      fields
+
+    -- "Function: kind, entry label, return variable, context variable, return-pointer flag, parameter count (0..16) and variables,
+    -- slot count (0..16) and pairs of variable and size (0..32,768)."
+    unfoldable pub function : Field Function
+    function = do
+      item ← known s items
+      entry ← label
+      returnVar ← var
+      contextVar ← var
+      returnPointer ← known s (flagsOf item)
+      parameters ← listOf s (mostParameters item) var
+      slots ← listOf s 16 slot
+      give (record { item = item; entry = entry; returnVar = returnVar; contextVar = contextVar; returnPointer = returnPointer; parameters = parameters; slots = slots })
+
+    -- "Constant: length, raw bytes (8,192 over all)."
+    unfoldable pub constants : Field (List (Placed (List ℕ)))
+    constants = within (λ c. length (c .item)) 8192 (n .constants) (λ left. placed (bytes s left))
+
+    -- "Block: instruction count, instructions (4,096 over all)."
+    unfoldable pub blocks : Field (List (List (Placed Instruction)))
+    blocks = within length 4096 (n .blocks) (λ left. listOf s left (placed instruction))
+
+  unfoldable pub whole : Field Image
+  whole = do
+    n ← header
+    constants ← constants n
+    functions ← many (n .functions) (placed (function n))
+    blocks ← blocks n
+    end ← atEnd s
+    give (record { variables = n .variables; constants = constants; functions = functions; blocks = blocks })
+
+  -- "An image is at most 32,768 bytes." "An over-long image is 4 at place 0, before all else."
+  unfoldable pub image : Got Image
+  image = pick (leb (length s) 32768) (whole 0) (refused overLimit 0)
+
+-- the program that an image gives, without the places
+unfoldable pub programOf : Image → Program
+programOf i = record {
+  variables = i .variables;
+  constants = map (λ c. c .item) (i .constants);
+  functions = map (λ f. f .item) (i .functions);
+  blocks = map (λ b. map (λ i. i .item) b) (i .blocks);
+}
+
+-- What loading the bytes answers: the program and the image's length, or number and place.
+unfoldable pub loaded : List ℕ → Got Program
+loaded s = andThen (image s) (λ i end. took (programOf i) end)
