@@ -4,3 +4,4 @@ pub mod Number
 pub mod Fields
 pub mod Image
 pub mod Cases
+pub mod Answer

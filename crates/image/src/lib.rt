@@ -1,8 +1,2 @@
-// The program image: its numbers and fields, the loader, the decoder and the writer.
-pub fn same(x: u64) -> u64
-    ensures { λ r. ⌜ r ≡ x ⌝ }
-{
-    x
-}
-
-ghost use mathlib.Core.Path.{_≡_};
+// The program image: its numbers and fields, on a slice and a place.
+pub mod number;

@@ -1,0 +1,4 @@
+pub mod Groups
+pub mod Bytes
+pub mod Round
+pub mod Unique
