@@ -19,6 +19,16 @@ use Rattle.image.specs.declared.field.Step.{Step}
 use Rattle.image.specs.declared.field.Step.the-variants.{At, Stop}
 use Rattle.image.proofs.Laws.{next, walk-map}
 
+-- two tests that agree
+pub such-same : (s : List ℕ) (test test′ : ℕ → Bool) (why : ℕ) → ((v : ℕ) → test v ≡ test′ v) → (c : Step) → walk (such s test why) c ≡ walk (such s test′ why) c
+unfolding such andThen
+such-same s test test′ why h (Stop n q) = refl
+such-same s test test′ why h (At at) = by-got (number s at)
+  where
+    by-got : (g : Got ℕ) → shape (andThen g (λ v n. pick (test v) (took v n) (refused why at))) ≡ shape (andThen g (λ v n. pick (test′ v) (took v n) (refused why at)))
+    by-got (took v n) = ap (λ (b : Bool). shape (pick b (took v n) (refused why at))) (h v)
+    by-got (refused k q) = refl
+
 -- ---- numbers that stand for something
 
 -- what stands for something is what passes the test

@@ -1,0 +1,11 @@
+// The loader: any bytes are answered, taken or refused by number and place.
+pub mod instruction;
+pub mod operand;
+
+// The header's counts.
+pub struct Counts {
+    pub variables: u64,
+    pub constants: u64,
+    pub functions: u64,
+    pub blocks: u64,
+}
