@@ -1,8 +1,9 @@
 -- Where the image's kinds of field end, as the code goes from step to step.
-use Prim.Native.Nat.{ℕ, zero, suc, _-_, _≤_}
+use Prim.Native.Nat.{ℕ, zero, suc, _-_, _≤_, _<_}
 use native.Mathlib.Omega.{arith}
+use native.Mathlib.Decide.{decLt}
 use mathlib.Core.Bool.{Bool, true, false}
-use mathlib.Core.Path.{_≡_, refl, sym, ap, _∙_}
+use mathlib.Core.Path.{_≡_, refl, sym, ap, ap₂, _∙_}
 use mathlib.Core.List.{List, [], _∷_, map}
 use mathlib.Core.Option.{Option, none, some}
 use lib.ListN.{length, getD}
@@ -57,6 +58,33 @@ each-known (x ∷ xs) (suc v) = each-known xs v ∙ sym (leb·suc-suc (suc v) (l
 -- items at every position from 0 on
 pub known-below : {A : Type 0} (s : List ℕ) (xs : List A) (c : Step) → walk (known s (map some xs)) c ≡ walk (below s (length xs) unknown) c
 known-below s xs c = known-such s (map some xs) (λ v. ltb v (length xs)) (each-known xs) c
+
+-- the item that the number stands for, and the first where it was refused
+pub known-item : {A : Type 0} (s : List ℕ) (a : A) (xs : List A) (c : Step)
+    → orElse a (after c (known s (map some (a ∷ xs)))) ≡ getD (a ∷ xs) (orElse 0 (after c (below s (length (a ∷ xs)) unknown))) a
+unfolding known such andThen
+known-item s a xs (Stop n q) = refl
+known-item {A} s a xs (At at) = by-got (number s at)
+  where
+    beyond : (ys : List A) (v : ℕ) → length ys ≤ v → _≡_ {A = Option A} (getD (map some ys) v none) none
+    beyond [] v h = refl
+    beyond (y ∷ ys) zero h = absurd (omega arith)
+    beyond (y ∷ ys) (suc v) h = beyond ys v (omega arith)
+
+    there : (ys : List A) (v : ℕ) → v < length ys → getD (map some ys) v none ≡ some (getD ys v a)
+    there [] v h = absurd (omega arith)
+    there (y ∷ ys) zero h = refl
+    there (y ∷ ys) (suc v) h = there ys v (omega arith)
+
+    by-test : (v n : ℕ) → Dec (v < length (a ∷ xs))
+        → orElse a (meant (getD (map some (a ∷ xs)) v none) at n) ≡ getD (a ∷ xs) (orElse 0 (pick (ltb v (length (a ∷ xs))) (took v n) (refused unknown at))) a
+    by-test v n (yes h) = rw (there (a ∷ xs) v h, lt-ltb v (length (a ∷ xs)) h)
+    by-test v n (no h) = rw (beyond (a ∷ xs) v (omega arith), le-ltb v (length (a ∷ xs)) (omega arith))
+
+    by-got : (g : Got ℕ) → orElse a (andThen g (λ v n. meant (getD (map some (a ∷ xs)) v none) at n))
+        ≡ getD (a ∷ xs) (orElse 0 (andThen g (λ v n. pick (ltb v (length (a ∷ xs))) (took v n) (refused unknown at)))) a
+    by-got (took v n) = by-test v n (decLt v (length (a ∷ xs)))
+    by-got (refused k q) = refl
 
 -- an item at position 1 alone
 pub known-only : {A : Type 0} (s : List ℕ) (a : A) (c : Step) → walk (known s (none ∷ some a ∷ [])) c ≡ walk (such s (λ v. eqb v 1) unknown) c
@@ -123,6 +151,12 @@ module _ {A : Type 0} (s : List ℕ) (p : Field A) (c : Step) where
   pub listOf-walk : (limit : ℕ) → walk (listOf s limit p) c ≡ walk (many (orElse 0 (after c (atMost s limit))) p) (walk (atMost s limit) c)
   unfolding listOf
   listOf-walk limit = ap shape (next c (atMost s limit) 0 _)
+
+-- the same, as the code has the count, the step after it and the step after the fields
+pub listOf-read : {A : Type 0} (s : List ℕ) (p : Field A) (c : Step) (limit : ℕ) {g : Got ℕ} {d r : Step} {k : ℕ}
+    → g ≡ after c (atMost s limit) → d ≡ shape g → k ≡ orElse 0 g → r ≡ walk (many k p) d → r ≡ walk (listOf s limit p) c
+listOf-read s p c limit {g} {d} {r} {k} eg ed ek er =
+    er ∙ ap₂ (λ (j : ℕ) (d : Step). walk (many j p) d) (ek ∙ ap (orElse 0) eg) (ed ∙ ap shape eg) ∙ sym (listOf-walk s p c limit)
 
 pub bytes-walk : (s : List ℕ) (limit : ℕ) (c : Step) → walk (bytes s limit) c ≡ walk (raw s (orElse 0 (after c (atMost s limit)))) (walk (atMost s limit) c)
 unfolding bytes

@@ -1,5 +1,7 @@
 // The loader: any bytes are answered, taken or refused by number and place.
+pub mod function;
 pub mod instruction;
+pub mod load;
 pub mod operand;
 
 // The header's counts.
