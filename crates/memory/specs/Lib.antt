@@ -1,2 +1,3 @@
 pub mod Live
 pub mod Memory
+pub mod Tables
