@@ -1,2 +1,4 @@
+pub mod Every
+pub mod Last
 pub mod Laws
 pub mod Lists

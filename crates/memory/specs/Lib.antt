@@ -1,3 +1,4 @@
 pub mod Live
 pub mod Memory
+pub mod Stored
 pub mod Tables

@@ -10,6 +10,9 @@ use Rattle.value.specs.Answer.{pick}
 use Rattle.value.specs.Refusal.{notSound, shortTable, notGivenOut, throughConstant, frameGone, noAllocation, beyondLength, misaligned, offsetTooLarge, framesFull, idsSpent, allocationsFull, bytesFull, pointersFull, noConstant}
 use Rattle.memory.specs.declared.Registers.{Registers}
 use Rattle.memory.specs.declared.PointerRecord.{PointerRecord}
+use Rattle.value.specs.Value.{tag, char, isScalar}
+use Rattle.memory.specs.Stored.{greatestOf}
+use Rattle.memory.specs.declared.LiveRecord.{LiveRecord}
 use Rattle.memory.specs.declared.Moved.{Moved}
 use Rattle.memory.specs.declared.Moved.the-variants as moved
 use Rattle.memory.specs.declared.Popped.{Popped}
@@ -283,3 +286,127 @@ addressOf m k l =
     pick (eqb (length l) 20480)
     (pick (leb 4096 (m .pointers)) (both (given.Refused pointersFull) l) (handed m (pointer 1 k 0 0 0) l))
     (both (given.Refused notSound) l)
+
+-- ---- the live list
+
+abbrev pub liveRecord : (live frame allocation offset : ℕ) → LiveRecord
+liveRecord l f a o = record { live = l; frame = f; allocation = a; offset = o }
+
+abbrev pub flagOf : Place → ℕ
+flagOf (place.At k) = 1
+flagOf (place.Refused n) = 0
+
+unfoldable pub recordOf : (depth : ℕ) → (frames : List ℕ) → PointerRecord → LiveRecord
+recordOf d fr q =
+    pick (eqb (q .kind) 0) (liveRecord (flagOf (standingOf d fr q)) (q .index) (q .allocation) (q .offset)) (liveRecord 0 0 0 0)
+
+-- f 0 to f (n - 1) in place of the first n
+unfoldable pub filled : (n : ℕ) → (ℕ → ℕ) → List ℕ → List ℕ
+filled zero f l = l
+filled (suc n) f l = set (filled n f l) n (f n)
+
+pub record Columns : Type 0 where
+  pub live : List ℕ
+  pub frame : List ℕ
+  pub allocation : List ℕ
+  pub offset : List ℕ
+
+abbrev pub columns : (live frame allocation offset : List ℕ) → Columns
+columns l f a o = record { live = l; frame = f; allocation = a; offset = o }
+
+abbrev pub filledOf : (depth n : ℕ) → (frames pointers live frame allocation offset : List ℕ) → Columns
+filledOf d n fr ps l f a o =
+    columns
+    (filled n (λ p. recordOf d fr (pointerAt ps p) .live) l)
+    (filled n (λ p. recordOf d fr (pointerAt ps p) .frame) f)
+    (filled n (λ p. recordOf d fr (pointerAt ps p) .allocation) a)
+    (filled n (λ p. recordOf d fr (pointerAt ps p) .offset) o)
+
+-- an answer, with the four slices
+pub record Listing : Type 0 where
+  pub answer : Outcome
+  pub slices : Columns
+
+abbrev pub listing : Outcome → (live frame allocation offset : List ℕ) → Listing
+listing r l f a o = record { answer = r; slices = columns l f a o }
+
+unfoldable pub roomyOf : (n live frame allocation offset : ℕ) → Bool
+roomyOf n l f a o = leb n l && (leb n f && (leb n a && leb n o))
+
+unfoldable pub listedOf : Tables → (live frame allocation offset : List ℕ) → Listing
+listedOf t l f a o =
+    pick (ready t)
+    (pick (roomyOf (t .registers .pointers) (length l) (length f) (length a) (length o))
+    (record { answer = outcome.Done; slices = filledOf (t .registers .depth) (t .registers .pointers) (t .frames) (t .pointers) l f a o })
+    (listing (outcome.Refused shortTable) l f a o))
+    (listing (outcome.Refused notSound) l f a o)
+
+-- ---- a sound state
+
+-- the whole state: the memory's tables, and the variables
+pub record State : Type 0 where
+  pub memory : Tables
+  pub variables : List ℕ
+
+abbrev pub state : Tables → List ℕ → State
+state t vs = record { memory = t; variables = vs }
+
+-- f holds of each number below n
+unfoldable pub every : ℕ → (ℕ → Bool) → Bool
+every zero f = true
+every (suc n) f = every n f && f n
+
+-- the id that frame i's lies below: that of the frame above, and above the top the counter
+unfoldable pub idAbove : List ℕ → (depth counter i : ℕ) → ℕ
+idAbove fr d counter i = pick (ltb (i + 1) d) (getD fr (i * 4 + 4) 0) counter
+
+-- ids rise; return places are at most 4,096 and return variables below 256; first allocations never fall
+unfoldable pub frameOk : List ℕ → (depth counter i : ℕ) → Bool
+frameOk fr d counter i =
+    ltb (getD fr (i * 4) 0) (idAbove fr d counter i)
+    && (leb (frameWord fr i 1) 4096 && (leb (frameWord fr i 2) 256 && leb (frameWord fr i 3) (frameWord fr i 7)))
+
+unfoldable pub boundOk : List ℕ → ℕ → Bool
+boundOk bo k = leb (getD bo k 0) (getD bo (k + 1) 0)
+
+-- a pointer is local or constant, and a constant's other fields are 0
+unfoldable pub pointerOk : PointerRecord → Bool
+pointerOk q =
+    pick (eqb (q .kind) 0) true (eqb (q .kind) 1 && (eqb (q .id) 0 && (eqb (q .allocation) 0 && eqb (q .offset) 0)))
+
+unfoldable pub pointersOk : List ℕ → ℕ → Bool
+pointersOk ps p = pointerOk (pointerAt ps p)
+
+-- a tag is 0, with bits 0, or that of a kind, with bits of that kind; a Char is scalar
+unfoldable pub storedOk : (tag bits : ℕ) → Bool
+storedOk t b = leb t 14 && (leb b (greatestOf t) && pick (eqb t (tag char)) (isScalar b) true)
+
+unfoldable pub variableOk : List ℕ → ℕ → Bool
+variableOk vs x = storedOk (getD vs (x * 2) 0) (getD vs (x * 2 + 1) 0)
+
+-- flags are 0 or 1; idle only at depth 1
+unfoldable pub registersOk : (running next depth : ℕ) → Bool
+registersOk running next depth = leb next 4096 && pick (eqb running 1) true (eqb running 0 && eqb depth 1)
+
+unfoldable pub endsOk : (id first start : ℕ) → Bool
+endsOk id first start = eqb id 0 && (eqb first 0 && eqb start 0)
+
+unfoldable pub allocationsOk : (live : ℕ) → List ℕ → Bool
+allocationsOk n bo = leb n 512 && (every n (boundOk bo) && leb (getD bo n 0) 32768)
+
+unfoldable pub memoryOk : Tables → Bool
+memoryOk t =
+    ready t
+    && (not (eqb (t .registers .depth) 0)
+    && (leb (t .registers .counter) 4294967295
+    && (endsOk (getD (t .frames) 0 0) (getD (t .frames) 3 0) (getD (t .bounds) 0 0)
+    && (every (t .registers .depth) (frameOk (t .frames) (t .registers .depth) (t .registers .counter))
+    && (allocationsOk (live t) (t .bounds)
+    && every (t .registers .pointers) (pointersOk (t .pointers)))))))
+
+unfoldable pub soundOf : State → Bool
+soundOf s =
+    memoryOk (s .memory)
+    && (eqb (length (s .variables)) 512
+    && (registersOk (s .memory .registers .running) (s .memory .registers .next) (s .memory .registers .depth)
+    && every 256 (variableOk (s .variables))))
