@@ -1,4 +1,13 @@
+pub mod Access
+pub mod Allocating
+pub mod Bytes
+pub mod Counts
 pub mod Every
+pub mod Facts
+pub mod Frames
 pub mod Last
 pub mod Laws
+pub mod Listing
 pub mod Lists
+pub mod Pointers
+pub mod Tab

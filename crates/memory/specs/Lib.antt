@@ -1,4 +1,6 @@
 pub mod Live
 pub mod Memory
+pub mod Sound
 pub mod Stored
 pub mod Tables
+pub mod View
