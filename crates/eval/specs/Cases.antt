@@ -1,0 +1,142 @@
+-- P1 to P10 of 01, as one list that is computed: each is a program, started on fresh memory with these arguments and run.
+use Prim.Native.Nat.{ℕ}
+use mathlib.Core.Bool.{Bool, true, false, _&&_}
+use mathlib.Core.List.{List, [], _∷_}
+use mathlib.Core.Option.{Option, none, some}
+use lib.Dec.{T, ltb, leb, eqb}
+use Rattle.value.specs.Answer.{Answer, ok, refused, need, found, _>>=_}
+use Rattle.value.specs.Refusal.{wrongKinds, outsideWidth, frameGone, beyondLength, misaligned, notBool}
+use Rattle.value.specs.Divide.{divideBits}
+use Rattle.value.specs.Value.{Value, value, Eq, IrType, Kind, bool, u8, u32, u64, i8, pointer, kindOf, tag, size, family, isScalar, isBadChar, integer, bitsOf, checked, operate, arithmetic, divideFloats, negated, notted, real, naturals, integers, reals, passes, hasEquality, equality, unsignedOrder, signedOrder, floatOrder, compareInts, compareFloats, switchOn, leBytes, leNumber, bytesOf, fromBytes}
+use Rattle.image.specs.Program.{Program, Operand, variable, literal, Slot, Branch, Declared, Item, Function, flatten, Instruction, Jump, Switch, Assign, ConstantAddress, Call, Return, IntCmp′, FloatCmp′, Add, Sub, Mul, Div, Mod, FDiv, Not, Negate, Offset, Initialize, Write, Read, Copy, Drop}
+use Rattle.memory.specs.Memory.{Memory, fresh, sum, liveCount, liveBytes, allocate, access, writeAt, writeBytes, readConstant, readAt, readBytes, offsetAt, offsetBy, constantAddress, pushFrame, popFrame}
+use Rattle.eval.specs.Machine as M
+use Rattle.eval.specs.Machine.{Memories, Machine, Outcome, returned, paused, stopped, Ran}
+use Rattle.eval.specs.Believed.{believed}
+
+-- ---- a case
+
+pub record Case : Type 0 where
+  pub program : Program
+  pub arguments : List Value
+  pub budget : ℕ
+  pub outcome : Outcome
+  pub count : ℕ
+
+unfoldable pub sameValue : Option Value → Option Value → Bool
+sameValue none none = true
+sameValue none (some w) = false
+sameValue (some v) none = false
+sameValue (some v) (some w) = eqb (tag (v .kind)) (tag (w .kind)) && eqb (v .bits) (w .bits)
+
+unfoldable pub sameOutcome : Outcome → Outcome → Bool
+sameOutcome (returned v) (returned w) = sameValue v w
+sameOutcome (returned v) paused = false
+sameOutcome (returned v) (stopped n) = false
+sameOutcome paused (returned w) = false
+sameOutcome paused paused = true
+sameOutcome paused (stopped n) = false
+sameOutcome (stopped m) (returned w) = false
+sameOutcome (stopped m) paused = false
+sameOutcome (stopped m) (stopped n) = eqb m n
+
+unfoldable pub ran : {M : Type 0} → Case → Answer (Ran M) → Bool
+ran c (ok r) = sameOutcome (r .outcome) (c .outcome) && eqb (r .count) (c .count)
+ran c (refused n) = false
+
+-- the function 0 is started, with the context Bool 0, and run
+unfoldable pub runs : {M : Type 0} → Memories M → Case → Answer (Ran M)
+runs mem c = M.start mem (c .program) 0 (value bool 0) (c .arguments) (M.fresh mem) >>= λ s. M.run mem (c .program) (c .budget) s
+
+unfoldable pub allHold : {M : Type 0} → Memories M → List Case → Bool
+allHold mem [] = true
+allHold mem (c ∷ cs) = ran c (runs mem c) && allHold mem cs
+
+-- ---- the programs
+
+-- no parameters, return variable 0, context variable 1, and these slots
+abbrev pub plain : (entry : ℕ) → List ℕ → List Slot → Function
+plain entry parameters slots = record { item = Item.function; entry = entry; returnVar = 0; contextVar = 1; returnPointer = false; parameters = parameters; slots = slots }
+
+abbrev pub of : List Function → List (List Instruction) → Program
+of fs bs = record { variables = 16; constants = []; functions = fs; blocks = bs }
+
+-- one function of one block
+abbrev pub just : List Instruction → Program
+just is = of (plain 0 [] [] ∷ []) (is ∷ [])
+
+-- P1's image, as a program: "01 03 00 01 01 00 00 00 01 00 01 02 00 02 08 02 00 02 02 01 05 01 00 02"
+abbrev pub p1 : Program
+p1 = record { variables = 3; constants = []; functions = plain 0 (2 ∷ []) [] ∷ []; blocks = (Add 2 (variable 2) (literal (value u8 1)) ∷ Return (some (variable 2)) ∷ []) ∷ [] }
+
+-- a step that sets the variable 2, and its return
+abbrev pub gives : Instruction → Program
+gives i = just (i ∷ Return (some (variable 2)) ∷ [])
+
+-- P4: a read of 4 bytes at an offset of an allocation of 8
+abbrev pub p4 : (offset : ℕ) → Program
+p4 o = just (Initialize 3 8 [] ∷ Offset 4 (variable 3) o ∷ Read 2 (variable 4) IrType.U32 ∷ Return (some (variable 2)) ∷ [])
+
+-- P5: a copy of 0 bytes from an offset of an allocation of 8
+abbrev pub p5 : (offset : ℕ) → Program
+p5 o = just (Initialize 3 8 [] ∷ Offset 4 (variable 3) o ∷ Copy (variable 3) (variable 4) 0 ∷ Return none ∷ [])
+
+-- P7
+abbrev pub p7 : Program
+p7 = just (Initialize 3 1 (2 ∷ []) ∷ Read 2 (variable 3) IrType.Boolean ∷ Return (some (variable 2)) ∷ [])
+
+-- P8: f(a, b), where the context is 0, calls f(b, a) with a context of 1, and there gives 16 a + b
+abbrev pub p8 : Program
+p8 = of (plain 0 (3 ∷ 4 ∷ []) [] ∷ []) (
+    (Switch (variable 1) (record { number = 1; label = 2 } ∷ []) 1 ∷ [])
+    ∷ (Call (some (record { to = 5; type = IrType.U8 })) (some (literal (value bool 1))) 0 (variable 4 ∷ variable 3 ∷ []) none ∷ Return (some (variable 5)) ∷ [])
+    ∷ (Mul 6 (variable 3) (literal (value u8 16)) ∷ Add 6 (variable 6) (variable 4) ∷ Return (some (variable 6)) ∷ [])
+    ∷ [])
+
+-- P9
+abbrev pub p9 : Program
+p9 = of (plain 0 [] [] ∷ []) (
+    (Switch (literal (value u8 7)) (record { number = 7; label = 1 } ∷ record { number = 7; label = 2 } ∷ []) 3 ∷ [])
+    ∷ (Return (some (literal (value u8 1))) ∷ [])
+    ∷ (Return (some (literal (value u8 2))) ∷ [])
+    ∷ (Return (some (literal (value u8 3))) ∷ [])
+    ∷ [])
+
+-- P10: a call returns the pointer of its slot; a second call, which has a slot too, reads through it
+abbrev pub p10 : Program
+p10 = of (plain 0 [] [] ∷ plain 1 [] (record { var = 3; size = 4 } ∷ []) ∷ plain 2 [] (record { var = 4; size = 4 } ∷ []) ∷ []) (
+    (Call (some (record { to = 2; type = IrType.Pointer })) none 1 [] none ∷ Call none none 2 [] none ∷ Return none ∷ [])
+    ∷ (Return (some (variable 3)) ∷ [])
+    ∷ (Read 5 (variable 2) IrType.U32 ∷ Return none ∷ [])
+    ∷ [])
+
+abbrev pub case : Program → List Value → ℕ → Outcome → ℕ → Case
+case P gs budget outcome count = record { program = P; arguments = gs; budget = budget; outcome = outcome; count = count }
+
+unfoldable pub cases : List Case
+cases =
+    case p1 (value u8 41 ∷ []) 2 (returned (some (value u8 42))) 2
+    ∷ case p1 (value u8 41 ∷ []) 1 paused 1
+    ∷ case p1 (value u8 41 ∷ []) 0 paused 0
+    ∷ case p1 (value u8 255 ∷ []) 2 (stopped outsideWidth) 0
+    ∷ case (gives (Negate 2 (literal (value i8 129)))) [] 9 (returned (some (value i8 127))) 2
+    ∷ case (gives (Negate 2 (literal (value i8 128)))) [] 9 (stopped outsideWidth) 0
+    ∷ case (gives (Div 2 true (literal (value i8 249)) (literal (value i8 2)))) [] 9 (returned (some (value i8 253))) 2
+    ∷ case (gives (Mod 2 true (literal (value i8 249)) (literal (value i8 2)))) [] 9 (returned (some (value i8 255))) 2
+    ∷ case (gives (Mod 2 true (literal (value i8 128)) (literal (value i8 255)))) [] 9 (stopped outsideWidth) 0
+    ∷ case (p4 4) [] 9 (returned (some (value u32 0))) 4
+    ∷ case (p4 2) [] 9 (stopped misaligned) 2
+    ∷ case (p4 6) [] 9 (stopped beyondLength) 2
+    ∷ case (p5 0) [] 9 (returned none) 4
+    ∷ case (p5 8) [] 9 (stopped misaligned) 2
+    ∷ case (p5 9) [] 9 (stopped beyondLength) 2
+    ∷ case (gives (IntCmp′ 2 Eq (literal (value u64 5)) (literal (value u64 5)))) [] 9 (stopped wrongKinds) 0
+    ∷ case p7 [] 9 (stopped notBool) 1
+    ∷ case p8 (value u8 1 ∷ value u8 2 ∷ []) 9 (returned (some (value u8 34))) 7
+    ∷ case p9 [] 9 (returned (some (value u8 1))) 2
+    ∷ case p10 [] 9 (stopped frameGone) 3
+    ∷ []
+
+pub all-hold : T (allHold believed cases)
+unfolding cases allHold ran runs sameOutcome sameValue need found _>>=_ divideBits tag size kindOf family isScalar isBadChar integer bitsOf checked operate arithmetic divideFloats negated notted real naturals integers reals passes hasEquality equality unsignedOrder signedOrder floatOrder compareInts compareFloats switchOn leBytes leNumber bytesOf fromBytes flatten fresh sum liveCount liveBytes allocate access writeAt writeBytes readConstant readAt readBytes offsetAt offsetBy constantAddress pushFrame popFrame M.start M.run M.runFrom M.after M.step M.execute M.leave M.makeSlots M.fresh M.setStarted M.setValues M.allGood M.setReturned M.valueIf M.toOf M.choose M.setArguments M.asVariable M.setFrom M.pointerOf M.asPointer M.valueOf
+all-hold = tt

@@ -1,0 +1,2 @@
+// The evaluator, from lir/eval.rs: operands, one step, start, run and the host's calls.
+pub mod variables;
