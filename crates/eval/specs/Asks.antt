@@ -24,7 +24,7 @@ pub data Reply : Type 0 where
   returned : Option Value → Reply
   ran : Outcome → (count : ℕ) → Reply
   lists : List Live → Reply
-  no : (number : ℕ) → Reply
+  refusal : (number : ℕ) → Reply
 
 -- a reply, and the machine afterwards
 pub record Turn (M : Type 0) : Type 0 where
@@ -37,24 +37,24 @@ turn r s = record { reply = r; machine = s }
 -- an accepted ask, or a refused one: then the machine is as it was
 unfoldable pub changes : {M : Type 0} → Machine M → Reply → Answer (Machine M) → Turn M
 changes s r (ok s′) = turn r s′
-changes s r (refused n) = turn (no n) s
+changes s r (refused n) = turn (refusal n) s
 
 unfoldable pub shows : {M : Type 0} → Machine M → Answer (List ℕ) → Turn M
 shows s (ok bs) = turn (bytes bs) s
-shows s (refused n) = turn (no n) s
+shows s (refused n) = turn (refusal n) s
 
 unfoldable pub steps : {M : Type 0} → Machine M → Answer (Stepped M) → Turn M
 steps s (ok (went s′)) = turn done s′
 steps s (ok (ended v s′)) = turn (returned v) s′
-steps s (refused n) = turn (no n) s
+steps s (refused n) = turn (refusal n) s
 
 unfoldable pub goes : {M : Type 0} → Machine M → Answer (Ran M) → Turn M
 goes s (ok r) = turn (ran (r .outcome) (r .count)) (r .machine)
-goes s (refused n) = turn (no n) s
+goes s (refused n) = turn (refusal n) s
 
 unfoldable pub lays : {M : Type 0} → Machine M → Answer (List Live) → Turn M
 lays s (ok ls) = turn (lists ls) s
-lays s (refused n) = turn (no n) s
+lays s (refused n) = turn (refusal n) s
 
 module _ {M : Type 0} (mem : Memories M) where
   unfoldable pub ask : Ask → Machine M → Turn M

@@ -1,18 +1,16 @@
--- P1 to P10 of 01, as one list that is computed: each is a program, started on fresh memory with these arguments and run.
+-- P1 to P10 of 01 and some orders of checks, as one list that is computed: each is a program, started on fresh memory with these arguments and run.
 use Prim.Native.Nat.{ℕ}
 use mathlib.Core.Bool.{Bool, true, false, _&&_}
 use mathlib.Core.List.{List, [], _∷_}
 use mathlib.Core.Option.{Option, none, some}
-use lib.Dec.{T, ltb, leb, eqb}
-use Rattle.value.specs.Answer.{Answer, ok, refused, need, found, _>>=_}
-use Rattle.value.specs.Refusal.{wrongKinds, outsideWidth, frameGone, beyondLength, misaligned, notBool}
-use Rattle.value.specs.Divide.{divideBits}
-use Rattle.value.specs.Value.{Value, value, Eq, IrType, Kind, bool, u8, u32, u64, i8, pointer, kindOf, tag, size, family, isScalar, isBadChar, integer, bitsOf, checked, operate, arithmetic, divideFloats, negated, notted, real, naturals, integers, reals, passes, hasEquality, equality, unsignedOrder, signedOrder, floatOrder, compareInts, compareFloats, switchOn, leBytes, leNumber, bytesOf, fromBytes}
-use Rattle.image.specs.Program.{Program, Operand, variable, literal, Slot, Branch, Declared, Item, Function, flatten, Instruction, Jump, Switch, Assign, ConstantAddress, Call, Return, IntCmp′, FloatCmp′, Add, Sub, Mul, Div, Mod, FDiv, Not, Negate, Offset, Initialize, Write, Read, Copy, Drop}
-use Rattle.memory.specs.Memory.{Memory, fresh, sum, liveCount, liveBytes, allocate, access, writeAt, writeBytes, readConstant, readAt, readBytes, offsetAt, offsetBy, constantAddress, pushFrame, popFrame}
+use lib.Dec.{eqb}
+use Rattle.value.specs.Answer.{Answer, ok, refused, _>>=_}
+use Rattle.value.specs.Refusal.{wrongKinds, outsideWidth, frameGone, beyondLength, misaligned, notBool, noReturnPlace, bytesExceedSize, noInstruction}
+use Rattle.value.specs.Value.{Value, value, Eq, IrType, bool, u8, u32, u64, i8, pointer, tag, size}
+use Rattle.image.specs.Program.{Program, Operand, variable, literal, Slot, Item, Function, Instruction, Switch, Assign, Call, Return, IntCmp′, Add, Mul, Div, Mod, Negate, Offset, Initialize, Write, Read, Copy}
+use Rattle.memory.specs.Memory.{fresh}
 use Rattle.eval.specs.Machine as M
-use Rattle.eval.specs.Machine.{Memories, Machine, Outcome, returned, paused, stopped, Ran}
-use Rattle.eval.specs.Believed.{believed}
+use Rattle.eval.specs.Machine.{Memories, Outcome, returned, paused, stopped, Ran}
 
 -- ---- a case
 
@@ -110,6 +108,21 @@ p10 = of (plain 0 [] [] ∷ plain 1 [] (record { var = 3; size = 4 } ∷ []) ∷
     ∷ (Read 5 (variable 2) IrType.U32 ∷ Return none ∷ [])
     ∷ [])
 
+-- Copy: its read's faults come before its write's; here the read is unaligned and the number to write through was not given out
+abbrev pub copies : Program
+copies = just (Initialize 3 8 [] ∷ Offset 4 (variable 3) 2 ∷ Copy (literal (value pointer 99)) (variable 4) 4 ∷ Return none ∷ [])
+
+-- Write: the first operand's kind is tested before the second is read
+abbrev pub writes : Program
+writes = just (Write (literal (value u8 0)) (variable 2) ∷ Return none ∷ [])
+
+-- a call of f(a) with these arguments, where the variable 3 is a and was 1 before the call, and f sets the variable 4; what is then in `result`
+abbrev pub calls : List Operand → (returned : Option Operand) → (result : ℕ) → Program
+calls arguments value′ result = of (plain 0 [] [] ∷ plain 1 (3 ∷ []) [] ∷ []) (
+    (Assign 3 (literal (value u8 1)) IrType.U8 ∷ Assign 4 (literal (value u8 2)) IrType.U8 ∷ Call none none 1 arguments none ∷ Return (some (variable result)) ∷ [])
+    ∷ (Assign 4 (literal (value u8 5)) IrType.U8 ∷ Return value′ ∷ [])
+    ∷ [])
+
 abbrev pub case : Program → List Value → ℕ → Outcome → ℕ → Case
 case P gs budget outcome count = record { program = P; arguments = gs; budget = budget; outcome = outcome; count = count }
 
@@ -135,8 +148,14 @@ cases =
     ∷ case p8 (value u8 1 ∷ value u8 2 ∷ []) 9 (returned (some (value u8 34))) 7
     ∷ case p9 [] 9 (returned (some (value u8 1))) 2
     ∷ case p10 [] 9 (stopped frameGone) 3
+    -- the orders of checks, and what is easily got wrong: variables stay after a Return, a missing argument leaves the old value, a spare one is not read
+    ∷ case copies [] 9 (stopped misaligned) 2
+    ∷ case writes [] 9 (stopped wrongKinds) 0
+    ∷ case (calls [] none 4) [] 9 (returned (some (value u8 5))) 6
+    ∷ case (calls [] none 3) [] 9 (returned (some (value u8 1))) 6
+    ∷ case (calls (literal (value u8 7) ∷ variable 9 ∷ []) none 3) [] 9 (returned (some (value u8 7))) 6
+    ∷ case (calls [] (some (variable 4)) 4) [] 9 (stopped noReturnPlace) 4
+    ∷ case (gives (Initialize 2 1 (0 ∷ 0 ∷ []))) [] 9 (stopped bytesExceedSize) 0
+    ∷ case (just []) [] 0 paused 0
+    ∷ case (just []) [] 1 (stopped noInstruction) 0
     ∷ []
-
-pub all-hold : T (allHold believed cases)
-unfolding cases allHold ran runs sameOutcome sameValue need found _>>=_ divideBits tag size kindOf family isScalar isBadChar integer bitsOf checked operate arithmetic divideFloats negated notted real naturals integers reals passes hasEquality equality unsignedOrder signedOrder floatOrder compareInts compareFloats switchOn leBytes leNumber bytesOf fromBytes flatten fresh sum liveCount liveBytes allocate access writeAt writeBytes readConstant readAt readBytes offsetAt offsetBy constantAddress pushFrame popFrame M.start M.run M.runFrom M.after M.step M.execute M.leave M.makeSlots M.fresh M.setStarted M.setValues M.allGood M.setReturned M.valueIf M.toOf M.choose M.setArguments M.asVariable M.setFrom M.pointerOf M.asPointer M.valueOf
-all-hold = tt

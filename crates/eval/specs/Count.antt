@@ -1,11 +1,11 @@
 -- "the count is the number of definition steps taken"
-use Prim.Native.Nat.{ℕ, zero, suc, _+_, _≤_, _<_}
+use Prim.Native.Nat.{ℕ, suc, _+_, _<_}
 use mathlib.Core.Path.{_≡_}
 use mathlib.Core.Option.{Option}
-use Rattle.value.specs.Answer.{Answer, ok, refused}
+use Rattle.value.specs.Answer.{ok, refused}
 use Rattle.value.specs.Value.{Value}
 use Rattle.image.specs.Program.{Program}
-use Rattle.eval.specs.Machine.{Memories, Machine, Stepped, went, ended, Outcome, returned, paused, stopped, Ran, step}
+use Rattle.eval.specs.Machine.{Memories, Machine, went, ended, returned, paused, stopped, Ran, step}
 
 module _ {M : Type 0} (mem : Memories M) (P : Program) where
   -- n steps lead from one machine to the other, and each goes on

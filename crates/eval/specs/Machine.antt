@@ -4,13 +4,13 @@ use Prim.Native.Nat.{ℕ, zero, suc, _+_}
 use mathlib.Core.Bool.{Bool, true, false, not, _&&_}
 use mathlib.Core.List.{List, [], _∷_}
 use mathlib.Core.Option.{Option, none, some}
-use lib.ListN.{length, getD, getElem?}
+use lib.ListN.{length, getElem?}
 use lib.Dec.{ltb, leb, eqb}
 use Rattle.value.specs.Refusal as Refusal
 use Rattle.value.specs.Answer.{Answer, ok, refused, need, found, pick, _>>=_}
 use Rattle.memory.specs.Live.{Live}
 use Rattle.memory.specs.Memory.{Back}
-use Rattle.value.specs.Value.{Value, Kind, IrType, kindOf, size, same, value, pointer, isBadChar, Operation, add, sub, mul, div, mod′, arithmetic, divideFloats, notted, negated, compareInts, compareFloats, switchOn, bytesOf, fromBytes}
+use Rattle.value.specs.Value.{Value, kindOf, size, same, value, pointer, isBadChar, add, sub, mul, div, mod′, arithmetic, divideFloats, notted, negated, compareInts, compareFloats, switchOn, bytesOf, fromBytes}
 use Rattle.image.specs.Program.{Program, Operand, variable, literal, Slot, Branch, Declared, Function, functionAt, code, placeOf, Instruction, Jump, Switch, Assign, ConstantAddress, Call, Return, IntCmp′, FloatCmp′, Add, Sub, Mul, Div, Mod, FDiv, Not, Negate, Offset, Initialize, Write, Read, Copy, Drop}
 
 -- What the machine asks of a memory. A new pointer's number is how many were given out before it.

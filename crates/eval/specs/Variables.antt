@@ -5,7 +5,7 @@ use mathlib.Core.Option.{Option, none, some}
 use lib.ListN.{length, getD, getElem?}
 use lib.Dec.{ltb, eqb}
 use Rattle.value.specs.Refusal.{neverSet}
-use Rattle.value.specs.Answer.{Answer, ok, refused, pick}
+use Rattle.value.specs.Answer.{pick}
 use Rattle.value.specs.Value.{Value, value, Kind, bool, u8, u16, u32, u64, i8, i16, i32, i64, f32, f64, char, asn, pointer}
 use Rattle.eval.specs.Machine.{Vars}
 use Rattle.eval.specs.declared.variables.Found.{Found}

@@ -1,0 +1,14 @@
+-- The list of cases holds: P1 to P10 and the orders of checks, computed.
+use lib.Dec.{T}
+use Rattle.value.specs.Answer.{need, found, _>>=_}
+use Rattle.value.specs.Divide.{divideBits}
+use Rattle.value.specs.Value.{kindOf, tag, size, family, isScalar, isBadChar, integer, bitsOf, checked, operate, arithmetic, divideFloats, negated, notted, real, naturals, integers, reals, passes, hasEquality, equality, unsignedOrder, signedOrder, floatOrder, compareInts, compareFloats, switchOn, leBytes, leNumber, bytesOf, fromBytes}
+use Rattle.image.specs.Program.{flatten}
+use Rattle.memory.specs.Memory.{fresh, sum, liveCount, liveBytes, allocate, access, writeAt, writeBytes, readConstant, readAt, readBytes, offsetAt, offsetBy, constantAddress, pushFrame, popFrame}
+use Rattle.eval.specs.Machine as M
+use Rattle.eval.specs.Believed.{believed}
+use Rattle.eval.specs.Cases.{cases, allHold, ran, runs, sameOutcome, sameValue}
+
+pub all-hold : T (allHold believed cases)
+unfolding cases allHold ran runs sameOutcome sameValue need found _>>=_ divideBits tag size kindOf family isScalar isBadChar integer bitsOf checked operate arithmetic divideFloats negated notted real naturals integers reals passes hasEquality equality unsignedOrder signedOrder floatOrder compareInts compareFloats switchOn leBytes leNumber bytesOf fromBytes flatten fresh sum liveCount liveBytes allocate access writeAt writeBytes readConstant readAt readBytes offsetAt offsetBy constantAddress pushFrame popFrame M.start M.run M.runFrom M.after M.step M.execute M.leave M.makeSlots M.fresh M.setStarted M.setValues M.allGood M.setReturned M.valueIf M.toOf M.choose M.setArguments M.asVariable M.setFrom M.pointerOf M.asPointer M.valueOf
+all-hold = tt

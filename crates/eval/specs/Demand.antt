@@ -1,0 +1,117 @@
+-- Demand 3: what a sequence of asks tells of every later read, write and listing. A sequence is any list of host allocations, host writes, host reads,
+-- starts, steps, runs and listings, each with any accepted program, from fresh memory on. A refused ask changes nothing.
+use Prim.Native.Nat.{ℕ, _+_, _≤_, _<_, _∣_}
+use mathlib.Core.Logic.{_≢_, _⊎_, _↔_}
+use mathlib.Core.Path.{_≡_}
+use mathlib.Core.List.{List, [], _++_}
+use lib.ListN.{length, getD, take}
+use lib.Dec.{T}
+use Rattle.value.specs.Refusal.{notGivenOut, frameGone, beyondLength, misaligned, noConstant}
+use Rattle.value.specs.Answer.{ok, refused}
+use Rattle.image.specs.Program.{Program}
+use Rattle.memory.specs.Memory.{Memory, readBytes, writeBytes}
+use Rattle.eval.specs.Machine.{Machine, fresh}
+use Rattle.eval.specs.Believed.{believed}
+use Rattle.eval.specs.Sound.{sound}
+use Rattle.eval.specs.Accepted.{all, acceptedAsk}
+use Rattle.eval.specs.Asks.{Ask, toRead, toList, Reply, bytes, lists, refusal, replies, following}
+use Rattle.eval.specs.Entries.{enter, answers, onwards}
+use Rattle.eval.specs.History.{History, ofConstant, ofPlace, madeIn, madeAt, StandsFor, Open, Ended, toldList}
+use Rattle.eval.specs.Recalled.{recalled}
+use Rattle.eval.specs.Flat.{Before}
+
+abbrev pub Accepted : List Ask → Type 0
+Accepted as′ = T (all acceptedAsk as′)
+
+-- ---- the state after a sequence, and what the sequence tells
+
+abbrev pub stateAfter : List Ask → Machine Memory
+stateAfter as′ = onwards as′ (fresh believed)
+
+-- the same asks over the history: nothing of the machine is used, neither ids nor store nor variables that were read from it
+abbrev pub tells : List Ask → History
+tells as′ = following recalled as′ (fresh recalled) .memory
+
+-- what a host read of n bytes through p is answered after a sequence
+abbrev pub reply : List Ask → Program → (p n : ℕ) → Reply
+reply as′ P p n = enter (toRead P p n) (stateAfter as′) .reply
+
+-- every reply, of whatever is asked, is the one that the sequence tells
+abbrev pub RepliesAreTold : Type 0
+RepliesAreTold = (as′ : List Ask) → Accepted as′ → answers as′ (fresh believed) ≡ replies recalled as′ (fresh recalled)
+
+-- no ask makes the state unsound: 10 is never given
+abbrev pub AlwaysSound : Type 0
+AlwaysSound = (as′ : List Ask) → Accepted as′ → T (sound (stateAfter as′))
+
+-- ---- 1. which reads are granted
+
+-- "the pointer is a constant's and 01 grants it, or it is local and its allocation's frame has not ended, offset plus size is within the allocation
+-- and size divides offset (size 0: only at offset 0)"
+pub data Right (h : History) (P : Program) (p n : ℕ) : Type 0 where
+  of-constant : {k : ℕ} → StandsFor h p (ofConstant k) → k < length (P .constants) → n ≤ length (getD (P .constants) k []) → Right h P p n
+  of-place : {f j o : ℕ} → StandsFor h p (ofPlace f j o) → Open h f → o + n ≤ madeAt (h .made) f j .size → n ∣ o → Right h P p n
+
+abbrev pub GrantedExactlyWhenRight : Type 0
+GrantedExactlyWhenRight = (as′ : List Ask) → Accepted as′ → (P : Program) (p n : ℕ) → ((bs : List ℕ) × (reply as′ P p n ≡ bytes bs)) ↔ Right (tells as′) P p n
+
+-- ---- 2. with which bytes
+
+-- "each byte granted is the one last stored at that place of that allocation, or zero"
+abbrev pub BytesAreLastStored : Type 0
+BytesAreLastStored = (as′ : List Ask) → Accepted as′ → (P : Program) (p n f j o : ℕ) (bs : List ℕ) → StandsFor (tells as′) p (ofPlace f j o) → reply as′ P p n ≡ bytes bs
+    → (length bs ≡ n) × ((i : ℕ) → i < n → getD bs i 0 ≡ madeAt (tells as′ .made) f j .byte (o + i))
+
+-- of a constant, its first n bytes
+abbrev pub BytesOfConstants : Type 0
+BytesOfConstants = (as′ : List Ask) → Accepted as′ → (P : Program) (p n k : ℕ) (bs : List ℕ) → StandsFor (tells as′) p (ofConstant k) → reply as′ P p n ≡ bytes bs
+    → bs ≡ take n (getD (P .constants) k [])
+
+-- ---- 3. and with which number the others are refused
+
+pub data Why (h : History) (P : Program) (p n : ℕ) : (number : ℕ) → Type 0 where
+  never-given : length (h .given) ≤ p → Why h P p n notGivenOut
+  ended : {f j o : ℕ} → StandsFor h p (ofPlace f j o) → Ended h f → Why h P p n frameGone
+  too-long : {f j o : ℕ} → StandsFor h p (ofPlace f j o) → Open h f → madeAt (h .made) f j .size < o + n → Why h P p n beyondLength
+  uneven : {f j o : ℕ} → StandsFor h p (ofPlace f j o) → Open h f → o + n ≤ madeAt (h .made) f j .size → (n ∣ o → ⊥) → Why h P p n misaligned
+  not-here : {k : ℕ} → StandsFor h p (ofConstant k) → length (P .constants) ≤ k → Why h P p n noConstant
+  past-constant : {k : ℕ} → StandsFor h p (ofConstant k) → k < length (P .constants) → length (getD (P .constants) k []) < n → Why h P p n beyondLength
+
+abbrev pub RefusedWithItsNumber : Type 0
+RefusedWithItsNumber = (as′ : List Ask) → Accepted as′ → (P : Program) (p n k : ℕ) → (reply as′ P p n ≡ refusal k) ↔ Why (tells as′) P p n k
+
+-- "27 exactly where the frame has ended"
+abbrev pub GoneExactlyWhenEnded : Type 0
+GoneExactlyWhenEnded = (as′ : List Ask) → Accepted as′ → (P : Program) (p n : ℕ)
+    → (reply as′ P p n ≡ refusal frameGone) ↔ ((f : ℕ) × (j : ℕ) × (o : ℕ) × StandsFor (tells as′) p (ofPlace f j o) × Ended (tells as′) f)
+
+-- ---- 4. live allocations never share a byte of the store
+
+-- the extents lie apart: one ends before the other begins
+abbrev pub ExtentsApart : Type 0
+ExtentsApart = (as′ : List Ask) → Accepted as′ → (f j f′ j′ : ℕ) → Open (tells as′) f → Open (tells as′) f′
+    → j < length (madeIn (tells as′ .made) f) → j′ < length (madeIn (tells as′ .made) f′) → (f ≢ f′) ⊎ (j ≢ j′)
+    → Before (stateAfter as′ .memory .frames) (getD (tells as′ .below) f 0) j (getD (tells as′ .below) f′ 0) j′
+    ⊎ Before (stateAfter as′ .memory .frames) (getD (tells as′ .below) f′ 0) j′ (getD (tells as′ .below) f 0) j
+
+-- "an accepted write through one allocation changes no byte that is granted through another", the host's and a step's alike
+abbrev pub WritesStayApart : Type 0
+WritesStayApart = (as′ : List Ask) → Accepted as′ → (p q f j o f′ j′ o′ : ℕ) (bs : List ℕ) (m : Memory) → writeBytes (stateAfter as′ .memory) p bs ≡ ok m
+    → StandsFor (tells as′) p (ofPlace f j o) → StandsFor (tells as′) q (ofPlace f′ j′ o′) → (f ≢ f′) ⊎ (j ≢ j′)
+    → (constants : List (List ℕ)) (n : ℕ) → readBytes constants m q n ≡ readBytes constants (stateAfter as′ .memory) q n
+
+-- ---- 5. the live list
+
+-- it names exactly the local pointers whose frame has not ended, and shows of each, dead or alive, what the sequence tells
+abbrev pub ListingIsTold : Type 0
+ListingIsTold = (as′ : List Ask) → Accepted as′ → (room : ℕ) → length (tells as′ .given) ≤ room → enter (toList room) (stateAfter as′) .reply ≡ lists (toldList (tells as′))
+
+-- ---- in plain words
+
+-- A pointer made in a call is refused in every later state after that call has returned, whatever stands at its frame's index by then:
+-- p is given for a place of the frame f, f has ended some asks later, and after any more asks every read and write through p is 27.
+abbrev pub RefusedEverAfter : Type 0
+RefusedEverAfter = (as′ bs′ cs′ : List Ask) → Accepted ((as′ ++ bs′) ++ cs′) → (p f j o : ℕ) → StandsFor (tells as′) p (ofPlace f j o) → Ended (tells (as′ ++ bs′)) f
+    → ((P : Program) (n : ℕ) → reply ((as′ ++ bs′) ++ cs′) P p n ≡ refusal frameGone)
+    × ((constants : List (List ℕ)) (n : ℕ) → readBytes constants (stateAfter ((as′ ++ bs′) ++ cs′) .memory) p n ≡ refused frameGone)
+    × ((bs : List ℕ) → writeBytes (stateAfter ((as′ ++ bs′) ++ cs′) .memory) p bs ≡ refused frameGone)
