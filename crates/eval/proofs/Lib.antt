@@ -12,3 +12,5 @@ pub mod SoundMemory
 pub mod Sound
 pub mod Demand
 pub mod Sequence
+pub mod Numbers
+pub mod Promises

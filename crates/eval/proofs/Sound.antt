@@ -41,7 +41,7 @@ good-vars vs zero f = tt
 good-vars vs (suc n) f = yes-and (goodValue (vs n)) (goodVars vs n) (f n (le-refl _)) (good-vars vs n (λ x l. f x (omega arith)))
 
 module _ {m₀ : Memory} {s : Machine Memory} where
-  sound-held : T (sound s) → Later m₀ (s .memory) → Held (sounds-kept m₀) s
+  pub sound-held : T (sound s) → Later m₀ (s .memory) → Held (sounds-kept m₀) s
   unfolding sound
   sound-held t l =
       let a = and-yes (soundMemory (s .memory)) _ t in
@@ -59,6 +59,10 @@ module _ {m₀ : Memory} {s : Machine Memory} where
       yes-and (soundMemory (s .memory)) _ (solid-sound (s .memory) (h .memory .solid))
       (yes-and (leb (s .place) 4096) _ (le→leb (s .place) 4096 (h .place))
       (yes-and (goodVars (s .vars) 256) (s .running || eqb (length (s .memory .frames)) 1) (good-vars (s .vars) 256 (h .vars)) (h .memory .idle)))
+
+pub sound-root : (s : Machine Memory) → T (sound s) → 0 < length (s .memory .frames)
+unfolding sound
+sound-root s t = sound-solid (s .memory) (and-yes (soundMemory (s .memory)) _ t .0) .root
 
 -- Every accepted ask of a sound state leaves a sound state, later than the one before.
 pub ask-sound : (a : Ask) (s : Machine Memory) → T (acceptedAsk a) → T (sound s) → T (sound (ask believed a s .machine)) × Later (s .memory) (ask believed a s .machine .memory)

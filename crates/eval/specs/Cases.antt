@@ -156,6 +156,7 @@ cases =
     ∷ case (calls (literal (value u8 7) ∷ variable 9 ∷ []) none 3) [] 9 (returned (some (value u8 7))) 6
     ∷ case (calls [] (some (variable 4)) 4) [] 9 (stopped noReturnPlace) 4
     ∷ case (gives (Initialize 2 1 (0 ∷ 0 ∷ []))) [] 9 (stopped bytesExceedSize) 0
+    ∷ case (just (Initialize 3 2 [] ∷ Write (variable 3) (literal (value u32 0)) ∷ [])) [] 9 (stopped beyondLength) 1
     ∷ case (just []) [] 0 paused 0
     ∷ case (just []) [] 1 (stopped noInstruction) 0
     ∷ []

@@ -13,3 +13,4 @@ pub mod Flat
 pub mod Alike
 pub mod Demand
 pub mod Sequence
+pub mod Promises
