@@ -1,0 +1,4 @@
+pub mod Stores
+pub mod Pieces
+pub mod Digits
+pub mod Numbers
