@@ -2,3 +2,5 @@ pub mod Stores
 pub mod Pieces
 pub mod Digits
 pub mod Numbers
+pub mod Pairs
+pub mod Bytes

@@ -1,2 +1,3 @@
+pub mod Hex
 pub mod Number
 pub mod Text

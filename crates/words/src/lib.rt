@@ -1,4 +1,5 @@
 // The words of the program's lines: readers and writers of numbers, kinds, HEX and answers, on lent slices.
+pub mod hex;
 pub mod number;
 pub mod text;
 
@@ -12,4 +13,11 @@ pub enum Read {
 pub enum Written {
     To(usize),
     Full,
+}
+
+// How many bytes a word of HEX says, or that there are too many for the buffer, or that it cannot be read.
+pub enum HexRead {
+    Bytes(usize),
+    Long,
+    Bad,
 }
