@@ -9,7 +9,7 @@ use mathlib.Core.List.{List, [], _∷_}
 use lib.ListN.{length, getD, set, drop, length-append, drop-of-length-le}
 use lib.Seq.{sets, drop-cons}
 use borrow.Author.Tests.{lt-ltb, le-ltb, le-leb, lt-leb, eq-eqb, ne-eqb}
-use Rattle.words.specs.Number.{allDigits, valueAfter, digitsSay, number, digits, placesWithin, places, decimal}
+use Rattle.words.specs.Number.{allDigits, valueAfter, digitsSay, number, digits, placesWithin, places, decimal, upTo}
 use Rattle.words.specs.declared.Read.{Read}
 use Rattle.words.specs.declared.Read.the-variants.{Number, Bad}
 use Rattle.words.proofs.Stores.{sets-last}
@@ -129,3 +129,15 @@ module _ (w : List ℕ) where
   pub more-led : (length w ≡ 0 → ⊥) → (length w ≡ 1 → ⊥) → (getD w 0 0 ≡ 48 → ⊥) → digitsSay 0 w ≡ number w
   unfolding number
   more-led h g e = rw (lt-ltb 0 (length w) (omega arith), ne-eqb (length w) 1 g, ne-eqb (getD w 0 0) 48 e)
+
+-- ---- a bound
+
+module _ (w : List ℕ) (n most : ℕ) where
+  pub in-bound : number w ≡ Number n → n ≤ most → Number n ≡ upTo most w
+  in-bound e h = rw (e, le-leb n most h)
+
+  pub out-of-bound : number w ≡ Number n → most < n → Bad ≡ upTo most w
+  out-of-bound e h = rw (e, lt-leb n most h)
+
+pub no-number : (w : List ℕ) (most : ℕ) → number w ≡ Bad → Bad ≡ upTo most w
+no-number w most e = rw e

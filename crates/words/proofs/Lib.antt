@@ -4,3 +4,4 @@ pub mod Digits
 pub mod Numbers
 pub mod Pairs
 pub mod Bytes
+pub mod Parting

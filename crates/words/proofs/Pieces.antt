@@ -9,7 +9,7 @@ use lib.Seq.{sets}
 use lib.Dec.{leb}
 use borrow.Author.Tests.{leb-true, le-leb, lt-leb}
 use Rattle.value.specs.Answer.{pick}
-use Rattle.words.specs.Text.{text, placed, stored, put}
+use Rattle.words.specs.Text.{text, placed, put}
 use Rattle.words.specs.declared.Written.{Written}
 use Rattle.words.specs.declared.Written.the-variants.{To, Full}
 

@@ -35,6 +35,14 @@ isLed w = ltb 0 (length w) && (eqb (length w) 1 || not (eqb (getD w 0 0) 48))
 unfoldable pub number : List ℕ → Read
 number w = pick (isLed w) (digitsSay 0 w) Bad
 
+-- the same, where it is at most `most`
+abbrev pub bounded : ℕ → Read → Read
+bounded most (Number n) = pick (leb n most) (Number n) Bad
+bounded most Bad = Bad
+
+abbrev pub upTo : ℕ → List ℕ → Read
+upTo most w = bounded most (number w)
+
 -- ---- writing
 
 -- the last k digits of n, the first of them first

@@ -2,6 +2,7 @@
 pub mod hex;
 pub mod number;
 pub mod text;
+pub mod word;
 
 // What a word says, where it can be read.
 pub enum Read {
@@ -20,4 +21,10 @@ pub enum HexRead {
     Bytes(usize),
     Long,
     Bad,
+}
+
+// Where a word stands in its line: from its first byte to the place after its last.
+pub struct Span {
+    pub from: usize,
+    pub to: usize,
 }
