@@ -11,7 +11,7 @@ use borrow.Author.Tests.{leb-true, eqb-true, lt-ltb, le-ltb, ne-eqb}
 use Rattle.value.specs.Answer.{pick}
 use Rattle.words.specs.Hex.{between, isHexDigit, nibble, allHex, isHex, bytesSaid, glyph, pairsOf, hexOf}
 use Rattle.words.proofs.Numbers.{and-true}
-use Rattle.words.proofs.Pairs.{in-range, below, above, length-pairs, even-digits}
+use Rattle.words.proofs.HexDigits.{in-range, below, above, length-pairs, even-digits}
 
 -- a digit that was written is read again
 module _ (d : ℕ) (h : d < 16) where

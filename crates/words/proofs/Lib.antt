@@ -2,6 +2,9 @@ pub mod Stores
 pub mod Pieces
 pub mod Digits
 pub mod Numbers
-pub mod Pairs
+pub mod HexDigits
 pub mod Bytes
 pub mod Parting
+pub mod Table
+pub mod Names
+pub mod Reading

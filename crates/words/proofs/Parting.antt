@@ -97,7 +97,7 @@ some-word (x ∷ xs) =
     go [] h = omega arith
     go (w ∷ ws) h = omega arith
 
-length-onto : (x : ℕ) (ws : List (List ℕ)) → 0 < length ws → length (onto x ws) ≡ length ws
+pub length-onto : (x : ℕ) (ws : List (List ℕ)) → 0 < length ws → length (onto x ws) ≡ length ws
 length-onto x [] h = absurd (omega arith)
 length-onto x (w ∷ ws) h = refl
 

@@ -1,4 +1,6 @@
 pub mod Hex
+pub mod Kinds
 pub mod Number
+pub mod Pairs
 pub mod Text
 pub mod Words

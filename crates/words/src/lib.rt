@@ -1,6 +1,8 @@
 // The words of the program's lines: readers and writers of numbers, kinds, HEX and answers, on lent slices.
 pub mod hex;
+pub mod kind;
 pub mod number;
+pub mod pairs;
 pub mod text;
 pub mod word;
 
@@ -27,4 +29,17 @@ pub enum HexRead {
 pub struct Span {
     pub from: usize,
     pub to: usize,
+}
+
+// What two words say as a kind and its bits: the tag and the bits, or which of the two cannot be read.
+pub enum Pair {
+    Value(u64, u64),
+    BadKind,
+    BadBits,
+}
+
+// How many values were read, or the word, counted from 0, that cannot be.
+pub enum Values {
+    Count(usize),
+    Bad(usize),
 }

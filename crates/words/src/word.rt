@@ -3,6 +3,8 @@ use crate::HexRead;
 use crate::Read;
 use crate::Span;
 use crate::hex::read_hex;
+use crate::kind::fits;
+use crate::kind::read_kind;
 use crate::number::read_number;
 ghost use mathlib.Core.Path.{_≡_};
 ghost use Prim.Native.Nat.{_+_};
@@ -10,6 +12,7 @@ ghost use lib.ListN.{length, getD, drop};
 ghost use mathlib.Core.List.{[]};
 ghost use Rattle.words.specs.Number.{upTo};
 ghost use Rattle.words.specs.Hex.{hexAnswer, hexBuffer};
+ghost use Rattle.words.specs.Kinds.{kindRead, bitsRead};
 ghost use Rattle.words.specs.Words.{until, words, wordAt, Stands};
 ghost use Rattle.words.specs.Words.{same as Words·same};
 
@@ -117,4 +120,33 @@ pub fn hex_at(line: &[u8], k: usize, out: &mut [u8]) -> HexRead
     let from = s.from;
     let to = s.to;
     read_hex(&line[from..to], out)
+}
+
+// The tag of the kind that the word at `k` names.
+pub fn kind_at(line: &[u8], k: usize) -> Read
+    ensures { λ r. ⌜ r ≡ kindRead (getD (words (now (line .entry))) k []) ⌝ }
+{
+    let s = word(line, k);
+    let from = s.from;
+    let to = s.to;
+    read_kind(&line[from..to])
+}
+
+// The bits that the word at `k` says, for the kind with this tag.
+pub fn bits_at(line: &[u8], k: usize, tag: u64) -> Read
+    ensures { λ r. ⌜ r ≡ bitsRead tag (getD (words (now (line .entry))) k []) ⌝ }
+{
+    let s = word(line, k);
+    let from = s.from;
+    let to = s.to;
+    match read_number(&line[from..to]) {
+        Read::Number(bits) => {
+            if fits(tag, bits) {
+                Read::Number(bits)
+            } else {
+                Read::Bad
+            }
+        }
+        Read::Bad => Read::Bad,
+    }
 }

@@ -6,7 +6,7 @@ use borrow.Author.Needs.{needs}
 use mathlib.Core.Path.{_≡_, refl, sym, _∙_}
 use lib.ListN.{length, drop}
 use Rattle.words.specs.Hex.{allHex}
-use Rattle.words.proofs.Pairs.{other-digit, hex-digit, all-seen}
+use Rattle.words.proofs.HexDigits.{other-digit, hex-digit, all-seen}
 use Rattle.words.proofs.hex.all_hex.Statement.{statement}
 use Rattle.words.proofs.hex.all_hex.Tie as tie
 

@@ -6,7 +6,7 @@ use mathlib.Core.Path.{_≡_, refl}
 use lib.ListN.{length, drop, length-set}
 use lib.Seq.{sets}
 use Rattle.words.specs.Hex.{bytesSaid}
-use Rattle.words.proofs.Pairs.{decode-more, decode-done}
+use Rattle.words.proofs.HexDigits.{decode-more, decode-done}
 use Rattle.words.proofs.hex.decode.Statement.{statement}
 use Rattle.words.proofs.hex.decode.Tie as tie
 

@@ -5,7 +5,7 @@ use mathlib.Core.Path.{_≡_, refl}
 use lib.ListN.{length, drop, length-set}
 use lib.Seq.{sets}
 use Rattle.words.specs.Hex.{pairsOf}
-use Rattle.words.proofs.Pairs.{encode-more, encode-done}
+use Rattle.words.proofs.HexDigits.{encode-more, encode-done}
 use Rattle.words.proofs.hex.encode.Statement.{statement}
 use Rattle.words.proofs.hex.encode.Tie as tie
 

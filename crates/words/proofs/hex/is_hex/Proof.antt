@@ -1,6 +1,6 @@
 -- `hex::is_hex` meets its contract, by the tests of the length.
 use mathlib.Core.Path.{_∙_}
-use Rattle.words.proofs.Pairs.{dash-alone, no-digit, odd-digits, even-digits}
+use Rattle.words.proofs.HexDigits.{dash-alone, no-digit, odd-digits, even-digits}
 use borrow.Author.Needs.{needs}
 use Rattle.words.proofs.hex.is_hex.Statement.{statement}
 use Rattle.words.proofs.hex.is_hex.Tie as tie

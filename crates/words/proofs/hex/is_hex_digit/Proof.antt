@@ -1,7 +1,7 @@
 -- `hex::is_hex_digit` meets its contract, range by range.
 use native.Mathlib.Omega.{arith}
 use Rattle.words.specs.Hex.{isHexDigit}
-use Rattle.words.proofs.Pairs.{in-range, below, above}
+use Rattle.words.proofs.HexDigits.{in-range, below, above}
 use Rattle.words.proofs.hex.is_hex_digit.Statement.{statement}
 use Rattle.words.proofs.hex.is_hex_digit.Tie as tie
 

@@ -1,7 +1,7 @@
 -- `hex::nibble` meets its contract, range by range.
 use native.Mathlib.Omega.{arith}
 use Rattle.words.specs.Hex.{nibble}
-use Rattle.words.proofs.Pairs.{in-range, below, above}
+use Rattle.words.proofs.HexDigits.{in-range, below, above}
 use borrow.Author.Needs.{needs}
 use Rattle.words.proofs.hex.nibble.Statement.{statement}
 use Rattle.words.proofs.hex.nibble.Tie as tie

@@ -2,7 +2,7 @@
 use mathlib.Core.Path.{_∙_, sym}
 use denote.Ref.{now}
 use borrow.Author.Tests.{not-true, not-false}
-use Rattle.words.proofs.Pairs.{not-hex, too-long, unpaired}
+use Rattle.words.proofs.HexDigits.{not-hex, too-long, unpaired}
 use borrow.Author.Needs.{needs}
 use Rattle.words.proofs.hex.read_hex.Statement.{statement}
 use Rattle.words.proofs.hex.read_hex.Tie as tie

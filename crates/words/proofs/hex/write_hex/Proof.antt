@@ -8,7 +8,7 @@ use lib.ListN.{length}
 use Rattle.words.specs.Text.{text, put}
 use Rattle.words.specs.Hex.{hexOf, pairsOf}
 use Rattle.words.proofs.Pieces.{placed-at, written, unwritten}
-use Rattle.words.proofs.Pairs.{no-bytes, some-bytes, length-hex}
+use Rattle.words.proofs.HexDigits.{no-bytes, some-bytes, length-hex}
 use borrow.Author.Needs.{needs}
 use Rattle.words.proofs.hex.write_hex.Statement.{statement}
 use Rattle.words.proofs.hex.write_hex.Tie as tie
