@@ -1,0 +1,3 @@
+//! Nothing is lowered here.
+
+pub fn lower_to_lir() {}
