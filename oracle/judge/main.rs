@@ -22,7 +22,11 @@ use probe::{Stop, over};
 use program::{Program, value_of_text};
 
 fn listed(numbers: &[u32]) -> String {
-    numbers.iter().map(u32::to_string).collect::<Vec<_>>().join(",")
+    numbers
+        .iter()
+        .map(u32::to_string)
+        .collect::<Vec<_>>()
+        .join(",")
 }
 
 /// How a case goes on.
@@ -44,14 +48,27 @@ fn start(program: &Program, mem: &mut Memory, word: &str) -> Next {
     let function = format!("f{}", fields[0]);
     let arguments = values.collect();
     let outcome = catch_unwind(AssertUnwindSafe(|| {
-        eval(&program.runtime, &program.items, &function, mem, context, arguments)
+        eval(
+            &program.runtime,
+            &program.items,
+            &function,
+            mem,
+            context,
+            arguments,
+        )
     }));
     let done = probe::done();
     let limits = over(mem);
     let (line, next) = match outcome {
-        Ok(value) => (format!("returned {} {done}", probe::optional_value(value.as_ref())), Next::On),
+        Ok(value) => (
+            format!("returned {} {done}", probe::optional_value(value.as_ref())),
+            Next::On,
+        ),
         Err(payload) => match payload.downcast_ref::<Stop>() {
-            Some(Stop::Over) => (format!("ours {} {}", listed(&limits), done.saturating_sub(1)), Next::Ended),
+            Some(Stop::Over) => (
+                format!("ours {} {}", listed(&limits), done.saturating_sub(1)),
+                Next::Ended,
+            ),
             Some(Stop::Paused) => (format!("paused {done}"), Next::HostOnly),
             Some(Stop::PastConstant) => (format!("ours 29 {done}"), Next::Ended),
             Some(Stop::NotANumber) => (format!("out {done}"), Next::Ended),
@@ -65,14 +82,24 @@ fn start(program: &Program, mem: &mut Memory, word: &str) -> Next {
 fn panicked(mem: &Memory, limits: &[u32], done: usize, budget: usize) -> (String, Next) {
     let number = probe::panic_number();
     if !limits.is_empty() {
-        return (format!("ours {} {}", listed(limits), done.saturating_sub(1)), Next::Ended);
+        return (
+            format!("ours {} {}", listed(limits), done.saturating_sub(1)),
+            Next::Ended,
+        );
     }
     if number != 20 {
-        return (format!("refused {number} {}", done.saturating_sub(1)), Next::Ended);
+        return (
+            format!("refused {number} {}", done.saturating_sub(1)),
+            Next::Ended,
+        );
     }
     // The fetch came before the trace: the instruction before it was completed.
     probe::tell_beyond(mem);
-    if done == budget { (format!("paused {done}"), Next::HostOnly) } else { (format!("refused 20 {done}"), Next::Ended) }
+    if done == budget {
+        (format!("paused {done}"), Next::HostOnly)
+    } else {
+        (format!("refused 20 {done}"), Next::Ended)
+    }
 }
 
 /// A host call.
@@ -82,10 +109,20 @@ fn host(program: &Program, mem: &mut Memory, word: &str) -> Next {
     if word.starts_with('a') {
         let given = mem.allocate(number);
         let limits = over(mem);
-        probe::say(&if limits.is_empty() { format!("H ok {given}") } else { format!("H ours {}", listed(&limits)) });
-        return if limits.is_empty() { Next::On } else { Next::Ended };
+        probe::say(&if limits.is_empty() {
+            format!("H ok {given}")
+        } else {
+            format!("H ours {}", listed(&limits))
+        });
+        return if limits.is_empty() {
+            Next::On
+        } else {
+            Next::Ended
+        };
     }
-    if word.starts_with('r') && probe::past_constant(&program.addresses(), mem, number, rest.parse().unwrap()) {
+    if word.starts_with('r')
+        && probe::past_constant(&program.addresses(), mem, number, rest.parse().unwrap())
+    {
         probe::say("H ours 29");
         return Next::On;
     }

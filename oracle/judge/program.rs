@@ -6,7 +6,8 @@ use crate::asn::Asn;
 use crate::ast::Identifier;
 use crate::label::LabelRef;
 use crate::lir::{
-    Block, FloatCmp, Instruction, IntCmp, IrType, IrValue, Item, ItemKind, Operand, Signature, ValueOrSlot, Var, VarKind,
+    Block, FloatCmp, Instruction, IntCmp, IrType, IrValue, Item, ItemKind, Operand, Signature,
+    ValueOrSlot, Var, VarKind,
 };
 use crate::runtime::layout::Layout;
 use crate::runtime::{Constant, ConstantValue, Rt};
@@ -22,7 +23,9 @@ pub struct Program {
 }
 
 pub fn bytes_of_text(text: &str) -> Vec<u8> {
-    (0..text.len() / 2).map(|i| u8::from_str_radix(&text[2 * i..2 * i + 2], 16).unwrap()).collect()
+    (0..text.len() / 2)
+        .map(|i| u8::from_str_radix(&text[2 * i..2 * i + 2], 16).unwrap())
+        .collect()
 }
 
 pub fn value_of_text(text: &str) -> IrValue {
@@ -118,7 +121,11 @@ impl Reader<'_> {
     }
 
     fn optional<T>(&mut self, field: impl Fn(&mut Self) -> T) -> Option<T> {
-        if self.number() == 1 { Some(field(self)) } else { None }
+        if self.number() == 1 {
+            Some(field(self))
+        } else {
+            None
+        }
     }
 
     fn list<T>(&mut self, item: impl Fn(&mut Self) -> T) -> Vec<T> {
@@ -148,8 +155,15 @@ impl Reader<'_> {
                 branches: r.list(|r| (r.size(), r.label())),
                 default: r.label(),
             },
-            2 => Instruction::Assign { to: r.variable(), val: r.operand(), ty: r.kind() },
-            3 => Instruction::ConstantAddress { to: r.variable(), name: ResolvedName(r.size()) },
+            2 => Instruction::Assign {
+                to: r.variable(),
+                val: r.operand(),
+                ty: r.kind(),
+            },
+            3 => Instruction::ConstantAddress {
+                to: r.variable(),
+                name: ResolvedName(r.size()),
+            },
             4 => Instruction::Call {
                 to: r.optional(|r| (r.variable(), r.kind())),
                 ctx: r.optional(|r| r.operand()),
@@ -158,34 +172,109 @@ impl Reader<'_> {
                 return_ptr: r.optional(|r| r.variable()),
             },
             5 => Instruction::Return(r.optional(|r| r.operand())),
-            6 => Instruction::IntCmp { to: r.variable(), cmp: r.int_cmp(), left: r.operand(), right: r.operand() },
-            7 => Instruction::FloatCmp { to: r.variable(), cmp: r.float_cmp(), left: r.operand(), right: r.operand() },
-            8 => Instruction::Add { to: r.variable(), left: r.operand(), right: r.operand() },
-            9 => Instruction::Sub { to: r.variable(), left: r.operand(), right: r.operand() },
-            10 => Instruction::Mul { to: r.variable(), left: r.operand(), right: r.operand() },
-            11 => Instruction::Div { to: r.variable(), signed: r.flag(), left: r.operand(), right: r.operand() },
-            12 => Instruction::Mod { to: r.variable(), signed: r.flag(), left: r.operand(), right: r.operand() },
-            13 => Instruction::FDiv { to: r.variable(), left: r.operand(), right: r.operand() },
-            14 => Instruction::Not { to: r.variable(), val: r.operand() },
-            15 => Instruction::Negate { to: r.variable(), val: r.operand() },
-            16 => Instruction::Offset { to: r.variable(), from: r.operand(), offset: r.number() as u32 },
+            6 => Instruction::IntCmp {
+                to: r.variable(),
+                cmp: r.int_cmp(),
+                left: r.operand(),
+                right: r.operand(),
+            },
+            7 => Instruction::FloatCmp {
+                to: r.variable(),
+                cmp: r.float_cmp(),
+                left: r.operand(),
+                right: r.operand(),
+            },
+            8 => Instruction::Add {
+                to: r.variable(),
+                left: r.operand(),
+                right: r.operand(),
+            },
+            9 => Instruction::Sub {
+                to: r.variable(),
+                left: r.operand(),
+                right: r.operand(),
+            },
+            10 => Instruction::Mul {
+                to: r.variable(),
+                left: r.operand(),
+                right: r.operand(),
+            },
+            11 => Instruction::Div {
+                to: r.variable(),
+                signed: r.flag(),
+                left: r.operand(),
+                right: r.operand(),
+            },
+            12 => Instruction::Mod {
+                to: r.variable(),
+                signed: r.flag(),
+                left: r.operand(),
+                right: r.operand(),
+            },
+            13 => Instruction::FDiv {
+                to: r.variable(),
+                left: r.operand(),
+                right: r.operand(),
+            },
+            14 => Instruction::Not {
+                to: r.variable(),
+                val: r.operand(),
+            },
+            15 => Instruction::Negate {
+                to: r.variable(),
+                val: r.operand(),
+            },
+            16 => Instruction::Offset {
+                to: r.variable(),
+                from: r.operand(),
+                offset: r.number() as u32,
+            },
             17 => {
                 let (to, size, bytes) = (r.variable(), r.size(), r.raw());
-                Instruction::Initialize { to, bytes, layout: Layout::new(size, 1) }
+                Instruction::Initialize {
+                    to,
+                    bytes,
+                    layout: Layout::new(size, 1),
+                }
             }
-            18 => Instruction::Write { to: r.operand(), val: r.operand() },
-            19 => Instruction::Read { to: r.variable(), from: r.operand(), ty: r.kind() },
-            20 => Instruction::Copy { to: r.operand(), from: r.operand(), size: r.number() as u32 },
-            _ => Instruction::Drop { var: r.operand(), drop: None },
+            18 => Instruction::Write {
+                to: r.operand(),
+                val: r.operand(),
+            },
+            19 => Instruction::Read {
+                to: r.variable(),
+                from: r.operand(),
+                ty: r.kind(),
+            },
+            20 => Instruction::Copy {
+                to: r.operand(),
+                from: r.operand(),
+                size: r.number() as u32,
+            },
+            _ => Instruction::Drop {
+                var: r.operand(),
+                drop: None,
+            },
         }
     }
 
     /// A variable's role in a function becomes its name there; no variable may have two.
-    fn role(&mut self, named: &mut [bool], scope: ScopeRef, kind: impl Fn(usize) -> VarKind) -> usize {
+    fn role(
+        &mut self,
+        named: &mut [bool],
+        scope: ScopeRef,
+        kind: impl Fn(usize) -> VarKind,
+    ) -> usize {
         let number = self.size();
-        assert!(!named[number], "outside the oracle's domain: variable {number} has two roles");
+        assert!(
+            !named[number],
+            "outside the oracle's domain: variable {number} has two roles"
+        );
         named[number] = true;
-        self.variables[number] = Var { scope, kind: kind(number) };
+        self.variables[number] = Var {
+            scope,
+            kind: kind(number),
+        };
         number
     }
 
@@ -199,57 +288,127 @@ impl Reader<'_> {
         let return_ptr = self.flag();
         let explicit = |number| Identifier::from(format!("v{number}"));
         let parameters = (0..self.size())
-            .map(|_| (explicit(self.role(named, scope, |number| VarKind::Explicit(explicit(number)))), IrType::U8))
+            .map(|_| {
+                (
+                    explicit(self.role(named, scope, |number| VarKind::Explicit(explicit(number)))),
+                    IrType::U8,
+                )
+            })
             .collect();
         let slots = self.list(|r| (r.size(), r.size()));
         let kind = if constant {
-            ItemKind::Constant { ty: Type, layout: None, type_id: 0, name: ResolvedName(usize::MAX) }
+            ItemKind::Constant {
+                ty: Type,
+                layout: None,
+                type_id: 0,
+                name: ResolvedName(usize::MAX),
+            }
         } else {
-            let ir_signature = Signature { parameters, context: true, return_ptr, return_type: None };
-            ItemKind::Function { signature: None, ir_signature }
+            let ir_signature = Signature {
+                parameters,
+                context: true,
+                return_ptr,
+                return_type: None,
+            };
+            ItemKind::Function {
+                signature: None,
+                ir_signature,
+            }
         };
-        let item =
-            Item { name: name(index), scope, kind, _entry_block: entry, variables: vec![], blocks: vec![], public: true };
+        let item = Item {
+            name: name(index),
+            scope,
+            kind,
+            _entry_block: entry,
+            variables: vec![],
+            blocks: vec![],
+            public: true,
+        };
         (item, slots)
     }
 }
 
 impl Program {
     pub fn new(image: &[u8]) -> Self {
-        let mut r = Reader { image, at: 0, variables: vec![] };
+        let mut r = Reader {
+            image,
+            at: 0,
+            variables: vec![],
+        };
         let header: Vec<usize> = (0..5).map(|_| r.size()).collect();
-        r.variables = (0..header[1]).map(|n| Var { scope: ScopeRef(usize::MAX), kind: VarKind::Tmp(n) }).collect();
+        r.variables = (0..header[1])
+            .map(|n| Var {
+                scope: ScopeRef(usize::MAX),
+                kind: VarKind::Tmp(n),
+            })
+            .collect();
         let constants: Vec<Box<[u8]>> = (0..header[2])
-            .map(|_| r.raw().into_iter().chain([0]).collect::<Vec<_>>().into_boxed_slice())
+            .map(|_| {
+                r.raw()
+                    .into_iter()
+                    .chain([0])
+                    .collect::<Vec<_>>()
+                    .into_boxed_slice()
+            })
             .collect();
         let mut named = vec![false; header[1]];
-        let functions: Vec<_> = (0..header[3]).map(|index| r.function(index, &mut named)).collect();
+        let functions: Vec<_> = (0..header[3])
+            .map(|index| r.function(index, &mut named))
+            .collect();
         let mut items: Vec<Item> = vec![];
         for (mut item, slots) in functions {
             let slot = |(v, size): (usize, usize)| {
-                (r.variables[v].clone(), ValueOrSlot::StackSlot(Layout::new(size, 1)))
+                (
+                    r.variables[v].clone(),
+                    ValueOrSlot::StackSlot(Layout::new(size, 1)),
+                )
             };
             item.variables = slots.into_iter().map(slot).collect();
             items.push(item);
         }
         let blocks: Vec<Block> = (0..header[4])
-            .map(|label| Block { label: LabelRef(label), instructions: r.list(|r| r.instruction()) })
+            .map(|label| Block {
+                label: LabelRef(label),
+                instructions: r.list(|r| r.instruction()),
+            })
             .collect();
         if let Some(first) = items.first_mut() {
             first.blocks = blocks;
         }
         assert_eq!(r.at, image.len());
-        let numbers = r.variables.iter().cloned().enumerate().map(|(number, var)| (var, number)).collect();
+        let numbers = r
+            .variables
+            .iter()
+            .cloned()
+            .enumerate()
+            .map(|(number, var)| (var, number))
+            .collect();
         let registered = constants.iter().enumerate().map(|(k, bytes)| {
             let name = ResolvedName(k);
-            (name, Constant { name, value: ConstantValue(bytes.as_ptr() as *const ()) })
+            (
+                name,
+                Constant {
+                    name,
+                    value: ConstantValue(bytes.as_ptr() as *const ()),
+                },
+            )
         });
-        let runtime = Rt { constants: registered.collect() };
-        Program { items, runtime, constants, numbers }
+        let runtime = Rt {
+            constants: registered.collect(),
+        };
+        Program {
+            items,
+            runtime,
+            constants,
+            numbers,
+        }
     }
 
     /// Each constant's address and length.
     pub fn addresses(&self) -> Vec<(usize, usize)> {
-        self.constants.iter().map(|bytes| (bytes.as_ptr() as usize, bytes.len() - 1)).collect()
+        self.constants
+            .iter()
+            .map(|bytes| (bytes.as_ptr() as usize, bytes.len() - 1))
+            .collect()
     }
 }

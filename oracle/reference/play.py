@@ -3,7 +3,6 @@
 import sys
 
 import image
-import machine
 from machine import Machine, Refusal, prepared
 
 
@@ -101,11 +100,11 @@ def host(m, program, word):
         return f"refused {refusal.number}"
 
 
-def play(case, fresh=Machine):
-    """The lines that a case gives."""
+def played(case):
+    """The machine as a case leaves it, and the lines that the case gives."""
     first, *words = case.split()
     program = prepared(image.load(bytes.fromhex(first)))
-    m, teller, lines = fresh(), Teller(), []
+    m, teller, lines = Machine(), Teller(), []
     for word in words:
         if word[0] == "s":
             if m.running:
@@ -117,7 +116,11 @@ def play(case, fresh=Machine):
                 break
         else:
             lines.append("H " + host(m, program, word))
-    return lines + ["."]
+    return m, lines + ["."]
+
+
+def play(case):
+    return played(case)[1]
 
 
 def main():

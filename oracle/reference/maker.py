@@ -1,0 +1,295 @@
+"""Random programs in the oracle's domain, with their starts (see oracle/README.md)."""
+
+import random
+import struct
+
+from image import CHAR, POINTER, WIDTHS, fits, write
+from machine import BOOL, F32, FLOATS, I64, SIGNED, SWITCHABLE, U64, U8, UNSIGNED
+from sweep import INTEGERS, KINDS, TYPES, edges, function, start_word
+
+
+class Maker:
+    """One random program: each variable has a kind that instructions mostly keep to, so that runs are long."""
+
+    def __init__(self, chance):
+        self.chance, self.inside = chance, 0
+        self.layout()
+
+    def often(self, share):
+        return self.chance.random() < share
+
+    def layout(self):
+        chance = self.chance
+        self.kind_of, self.functions = [], []
+        for _ in range(chance.choice([1, 1, 2, 2, 3, 4])):
+            item = self.often(0.08) and bool(self.functions)
+            parameters = [] if item else [self.variable() for _ in range(chance.choice([0, 1, 1, 2, 3]))]
+            self.functions.append(function(kind=int(item), pointer=int(item or self.often(0.3)), parameters=parameters,
+                                           context=self.variable(POINTER if self.often(0.6) else None), **{"return": self.variable(POINTER)}))
+        self.temporaries = [self.variable() for _ in range(chance.randint(3, 8))]
+        self.temporaries += [self.variable(kind) for kind in (POINTER, POINTER, BOOL, chance.choice(INTEGERS))]
+        if self.often(0.02):
+            while len(self.kind_of) < 256:
+                self.temporaries.append(self.variable())
+        chance.shuffle(self.temporaries)
+        everyone = range(len(self.kind_of))
+        self.held = {kind: [v for v in everyone if self.kind_of[v] == kind] for kind in KINDS}
+        for each in self.functions:
+            pool = self.temporaries if self.often(0.9) else list(everyone)
+            each["slots"] = [(chance.choice([v for v in pool if self.kind_of[v] == POINTER] or pool), self.size())
+                             for _ in range(chance.choice([0, 0, 1, 2, 3]))]
+        self.constants = [bytes(chance.choice([0, 1, 1, 2, 255]) for _ in range(chance.choice([0, 1, 2, 4, 8, 8, 16])))
+                          for _ in range(chance.choice([0, 1, 2, 3]))]
+
+    def variable(self, kind=None):
+        self.kind_of.append(kind or self.chance.choice([*KINDS, *INTEGERS, POINTER, POINTER]))
+        return len(self.kind_of) - 1
+
+    def size(self):
+        if self.often(0.02):
+            return self.chance.choice([100, 1000, 16384, 32768])
+        return self.chance.choice([0, 1, 2, 4, 8, 8, 8, 16, 24])
+
+    def bits(self, kind):
+        chance = self.chance
+        if kind == POINTER:
+            return chance.choice([0, 1, 2, 3, 4, 5, 8, 12]) if self.often(0.95) else chance.choice(edges(kind))
+        if kind == BOOL:
+            return chance.randrange(2)
+        if kind in FLOATS:
+            if self.often(0.4):
+                return chance.choice(edges(kind))
+            if self.often(0.3):
+                return chance.getrandbits(WIDTHS[kind])
+            small = chance.choice([0.5, 1.0, 2.0, 3.0, -7.0, 10.0, 0.1])
+            return struct.unpack("<I", struct.pack("<f", small))[0] if kind == F32 else struct.unpack("<Q", struct.pack("<d", small))[0]
+        if self.often(0.75):
+            small = chance.choice([0, 1, 1, 2, 3, 5, 7])
+            return (-small) % (1 << WIDTHS[kind]) if kind in SIGNED and self.often(0.4) else small
+        if self.often(0.5):
+            return chance.choice(edges(kind))
+        bits = chance.getrandbits(WIDTHS[kind])
+        return bits if fits(kind, bits) else 0x41
+
+    def literal(self, kind):
+        return (kind, self.bits(kind))
+
+    def operand(self, kind):
+        if self.often(0.015):
+            kind = self.chance.choice(KINDS)
+        if self.often(0.015):
+            return (0, self.chance.randrange(len(self.kind_of)))
+        holders = self.held[kind]
+        share = 0.93 if kind == POINTER else 0.6
+        return (0, self.chance.choice(holders)) if holders and self.often(share) else self.literal(kind)
+
+    def target(self, kind):
+        holders = self.held[kind]
+        return self.chance.choice(holders) if holders and self.often(0.97) else self.chance.choice(self.temporaries)
+
+    def present(self, kinds):
+        """A kind of these, one that some variable has where possible."""
+        held = [kind for kind in kinds if self.held[kind]]
+        return self.chance.choice(held if held and self.often(0.85) else list(kinds))
+
+    def type(self, kind):
+        return kind if kind in TYPES and self.often(0.9) else self.chance.choice(TYPES)
+
+    def instruction(self):
+        chance = self.chance
+        opcode = chance.choice([2, 2, 3, 4, 4, 6, 6, 7, 8, 8, 9, 9, 10, 11, 12, 13, 14, 15, 16, 16, 17, 18, 18, 18, 19, 19, 19, 20, 20, 21])
+        if opcode == 2:
+            to = chance.randrange(len(self.kind_of))
+            return (2, to, self.operand(self.kind_of[to]), self.type(self.kind_of[to]))
+        if opcode == 3:
+            return (3, self.target(POINTER), chance.randrange(len(self.constants))) if self.constants else (21, (0, 0))
+        if opcode == 4:
+            return self.call()
+        if opcode in (6, 7):
+            return self.comparison(opcode)
+        if opcode in (8, 9, 10):
+            kind = self.present(INTEGERS)
+            return (opcode, self.target(kind), self.operand(kind), self.operand(kind))
+        if opcode in (11, 12):
+            kind = self.present(INTEGERS)
+            right = self.operand(kind) if self.often(0.5) else (kind, chance.choice([1, 2, 3, 7, (1 << WIDTHS[kind]) - 1]))
+            return (opcode, self.target(kind), chance.randrange(2), self.operand(kind), right)
+        if opcode == 13:
+            kind = self.present(FLOATS)
+            return (13, self.target(kind), self.operand(kind), self.operand(kind))
+        if opcode == 14:
+            return (14, self.target(BOOL), self.operand(BOOL))
+        if opcode == 15:
+            kind = self.present(SIGNED + FLOATS)
+            return (15, self.target(kind), self.operand(kind))
+        return self.memory(opcode)
+
+    def comparison(self, opcode):
+        chance = self.chance
+        comparison = chance.randrange(10 if opcode == 6 else 6)
+        if comparison < 2:
+            kind = self.present([kind for kind in KINDS if kind not in (U64, I64, CHAR) or self.often(0.1)])
+            kinds = (kind, kind)
+        else:
+            family = FLOATS if opcode == 7 else UNSIGNED if comparison < 6 else SIGNED
+            kinds = (self.present(family), self.present(family))
+        return (opcode, self.target(BOOL), comparison, self.operand(kinds[0]), self.operand(kinds[1]))
+
+    def memory(self, opcode):
+        chance = self.chance
+        if opcode == 16:
+            offset = chance.choice([0, 0, 1, 2, 4, 4, 8]) if self.often(0.97) else chance.choice([3, 16, 2**31, 2**32 - 1])
+            return (16, self.target(POINTER), self.operand(POINTER), offset)
+        if opcode == 17:
+            size = self.size()
+            count = min(chance.choice([0, 1, 2, 4, 8, size]), 256)
+            count = count if count <= size or self.often(0.1) else size
+            return (17, self.target(POINTER), size, bytes(chance.choice([0, 1, 1, 2, 128, 255]) for _ in range(count)))
+        if opcode == 18:
+            kind = self.present(KINDS)
+            return (18, self.operand(POINTER), self.operand(kind))
+        if opcode == 19:
+            kind = self.present(TYPES)
+            return (19, self.target(kind), self.operand(POINTER), kind)
+        if opcode == 20:
+            return (20, self.operand(POINTER), self.operand(POINTER), chance.choice([0, 1, 1, 2, 4, 4, 8, 8, 16, 3]))
+        return (21, (0, chance.randrange(len(self.kind_of))) if self.often(0.7) else self.literal(chance.choice(KINDS)))
+
+    def call(self):
+        """Mostly of a later function, so that most calls return."""
+        chance = self.chance
+        later = range(self.inside + 1, len(self.functions))
+        if not later and self.often(0.8):
+            return (21, (0, 0))
+        number = chance.choice(later) if later and self.often(0.93) else chance.randrange(len(self.functions))
+        callee = self.functions[number]
+        arguments = [self.operand(self.kind_of[parameter]) for parameter in callee["parameters"]]
+        if self.often(0.2) and arguments:
+            arguments = [(0, chance.choice(callee["parameters"])) for _ in arguments]
+        if self.often(0.1):
+            arguments = arguments[:-1] if self.often(0.5) else arguments + [self.operand(chance.choice(KINDS))]
+        to = None
+        if self.often(0.8):
+            target = chance.randrange(len(self.kind_of))
+            to = (target, self.type(self.kind_of[target]))
+        context = self.operand(self.kind_of[callee["context"]]) if self.often(0.6) else None
+        pointer = chance.choice(self.held[POINTER]) if self.often(0.6 if callee["pointer"] else 0.1) else None
+        return (4, to, context, number, arguments, pointer)
+
+    def stale(self, number):
+        """Now and then an access through a pointer that another function made."""
+        slots = self.functions[number]["slots"]
+        if not slots or self.often(0.6):
+            return []
+        return self.access(self.chance.choice(slots)[0])
+
+    def access(self, variable):
+        made = (0, variable)
+        return [self.chance.choice([(19, self.target(U8), made, U8), (18, made, (U8, 1)), (16, self.target(POINTER), made, 0),
+                                    (20, self.operand(POINTER), made, 1), (20, made, self.operand(POINTER), 1)])]
+
+    def kept_from_last_call(self):
+        """An access through a pointer that the call before left behind; then this call's own slot is left behind."""
+        slots = self.functions[self.inside]["slots"]
+        if not slots or self.often(0.6):
+            return []
+        kept = self.chance.choice(self.held[POINTER])
+        return self.access(kept) + [(2, kept, (0, self.chance.choice(slots)[0]), POINTER)]
+
+    def near_a_bound(self):
+        """Fresh memory, an offset into it, and an access there."""
+        chance = self.chance
+        first, second = self.target(POINTER), self.target(POINTER)
+        kind, wide = self.present(TYPES), chance.choice(KINDS)
+        data = bytes(chance.choice([0, 1, 1, 1, 2]) for _ in range(chance.choice([0, 4, 8])))
+        access = chance.choice([(19, self.target(kind), (0, second), kind), (18, (0, second), self.operand(wide)),
+                                (20, (0, second), (0, first), chance.choice([1, 2, 4])), (20, (0, first), (0, second), chance.choice([1, 2, 4]))])
+        return [(17, first, chance.choice([8, 8, 16]), data), (16, second, (0, first), chance.choice([0, 0, 0, 1, 2, 4, 4, 8])), access]
+
+    def ending(self, span, at, all_labels):
+        """Mostly forward; the last block of a function mostly returns, that of the first mostly goes round again."""
+        chance = self.chance
+        forward, round_again = span[at + 1:], span[min(1, len(span) - 1):]
+
+        def label():
+            pool = forward if forward and self.often(0.85) else round_again
+            return chance.choice(pool) if self.often(0.99) else chance.choice(all_labels)
+
+        pick = chance.random()
+        if not forward:
+            pick = chance.uniform(0, 0.6) if self.inside == 0 and len(span) > 1 and self.often(0.7) else chance.uniform(0.57, 0.91)
+        if pick < 0.3:
+            return [(0, label())]
+        if pick < 0.6:
+            kind = self.present(SWITCHABLE) if self.often(0.98) else chance.choice(KINDS)
+            numbers = [chance.choice([0, 1, 1, 2, 7, 2**32 + 1]) for _ in range(chance.choice([0, 1, 2, 2, 3]))]
+            return [(1, self.operand(kind), [(number, label()) for number in numbers], label())]
+        if pick < 0.9 and (not forward or self.often(0.3)):
+            kind = chance.choice(self.kind_of)
+            return [(5, self.operand(kind) if self.often(0.75) else None)]
+        return []
+
+    def first_block(self):
+        """Sets nearly every variable."""
+        made = []
+        for number, kind in enumerate(self.kind_of):
+            if number < 64 and self.often(0.97):
+                if kind == POINTER and self.often(0.8):
+                    made.append((17, number, self.chance.choice([8, 8, 16]), b"" if self.often(0.7) else bytes([1, 0, 1])))
+                elif kind == POINTER and self.constants and self.often(0.5):
+                    made.append((3, number, self.chance.randrange(len(self.constants))))
+                else:
+                    made.append((2, number, self.literal(kind), self.type(kind)))
+        first = self.functions[0]
+        own = {first["context"], *first["parameters"], *([first["return"]] if first["pointer"] else [])}
+        return [one for one in made if one[1] not in own or self.often(0.3)]
+
+    def program(self):
+        chance = self.chance
+        blocks, spans = [], []
+        for each in self.functions:
+            spans.append(list(range(len(blocks), len(blocks) + chance.choice([1, 2, 3, 3, 4, 5]))))
+            each["entry"] = spans[-1][0]
+            blocks += [[] for _ in spans[-1]]
+        if self.often(0.3):
+            blocks.append([])
+        everyone = list(range(len(blocks)))
+        for self.inside, span in enumerate(spans):
+            for at, label in enumerate(span):
+                if at == 0 and self.inside:
+                    blocks[label] += self.stale(chance.randrange(len(self.functions))) + self.kept_from_last_call()
+                for _ in range(chance.choice([0, 1, 2, 3, 4, 6])):
+                    made = self.near_a_bound() if self.often(0.06) else [self.instruction()]
+                    blocks[label] += made + (self.stale(made[0][3]) if made[0][0] == 4 else [])
+                blocks[label] += self.ending(span, at, everyone)
+        blocks[0] = self.first_block() + blocks[0]
+        return {"variables": len(self.kind_of), "constants": self.constants, "functions": self.functions, "blocks": blocks}
+
+    def starts(self):
+        """Host calls, then a start, then host calls again; now and then a second start."""
+        chance = self.chance
+        words = []
+        for number in range(chance.choice([0, 1, 1, 2, 3])):
+            size = chance.choice([1, 2, 4, 8, 8, 16])
+            words.append(f"a{size}")
+            if self.often(0.7):
+                words.append(f"w{number}={bytes(chance.choice([0, 1, 1, 2, 255]) for _ in range(chance.choice([1, 2, 4, size]))).hex()}")
+        for _ in range(chance.choice([1, 1, 1, 2])):
+            first = self.functions[0]
+            values = [self.literal(self.kind_of[first["context"]])]
+            values += [self.literal(POINTER)] * first["pointer"]
+            values += [self.literal(self.kind_of[parameter]) for parameter in first["parameters"]]
+            words.append(start_word(0, values, chance.choice([0, 1, 5, 50, 100, 300, 600, 1000]) if self.often(0.98) else 5000))
+        for _ in range(chance.choice([0, 0, 1, 2])):
+            words.append(f"r{chance.randrange(6)}={chance.choice([0, 1, 2, 4, 8])}")
+        return words
+
+
+def random_cases(count, seed):
+    """Programs by the count, each started several times; a case a start."""
+    chance = random.Random(seed)
+    for _ in range(count):
+        maker = Maker(chance)
+        whole = write(maker.program()).hex()
+        for _ in range(chance.choice([1, 2, 3, 4, 6])):
+            yield " ".join([whole, *maker.starts()])
