@@ -21,7 +21,7 @@ class Maker:
     def layout(self):
         chance = self.chance
         self.kind_of, self.functions = [], []
-        for _ in range(chance.choice([1, 1, 2, 2, 3, 4])):
+        for _ in range(chance.choice([1, 2, 2, 3, 3, 4])):
             item = self.often(0.08) and bool(self.functions)
             parameters = [] if item else [self.variable() for _ in range(chance.choice([0, 1, 1, 2, 3]))]
             self.functions.append(function(kind=int(item), pointer=int(item or self.often(0.3)), parameters=parameters,
@@ -33,6 +33,7 @@ class Maker:
                 self.temporaries.append(self.variable())
         chance.shuffle(self.temporaries)
         everyone = range(len(self.kind_of))
+        self.gives = [chance.choice(self.kind_of) for _ in self.functions]
         self.held = {kind: [v for v in everyone if self.kind_of[v] == kind] for kind in KINDS}
         for each in self.functions:
             pool = self.temporaries if self.often(0.9) else list(everyone)
@@ -63,7 +64,7 @@ class Maker:
                 return chance.getrandbits(WIDTHS[kind])
             small = chance.choice([0.5, 1.0, 2.0, 3.0, -7.0, 10.0, 0.1])
             return struct.unpack("<I", struct.pack("<f", small))[0] if kind == F32 else struct.unpack("<Q", struct.pack("<d", small))[0]
-        if self.often(0.75):
+        if self.often(0.85):
             small = chance.choice([0, 1, 1, 2, 3, 5, 7])
             return (-small) % (1 << WIDTHS[kind]) if kind in SIGNED and self.often(0.4) else small
         if self.often(0.5):
@@ -75,12 +76,12 @@ class Maker:
         return (kind, self.bits(kind))
 
     def operand(self, kind):
-        if self.often(0.015):
+        if self.often(0.006):
             kind = self.chance.choice(KINDS)
-        if self.often(0.015):
+        if self.often(0.006):
             return (0, self.chance.randrange(len(self.kind_of)))
         holders = self.held[kind]
-        share = 0.93 if kind == POINTER else 0.6
+        share = 0.97 if kind == POINTER else 0.6
         return (0, self.chance.choice(holders)) if holders and self.often(share) else self.literal(kind)
 
     def target(self, kind):
@@ -97,7 +98,7 @@ class Maker:
 
     def instruction(self):
         chance = self.chance
-        opcode = chance.choice([2, 2, 3, 4, 4, 6, 6, 7, 8, 8, 9, 9, 10, 11, 12, 13, 14, 15, 16, 16, 17, 18, 18, 18, 19, 19, 19, 20, 20, 21])
+        opcode = chance.choice([2, 2, 3, 4, 4, 4, 4, 4, 4, 6, 6, 7, 8, 8, 9, 9, 10, 11, 12, 13, 14, 15, 16, 16, 17, 18, 18, 18, 19, 19, 19, 20, 20, 21])
         if opcode == 2:
             to = chance.randrange(len(self.kind_of))
             return (2, to, self.operand(self.kind_of[to]), self.type(self.kind_of[to]))
@@ -138,7 +139,7 @@ class Maker:
     def memory(self, opcode):
         chance = self.chance
         if opcode == 16:
-            offset = chance.choice([0, 0, 1, 2, 4, 4, 8]) if self.often(0.97) else chance.choice([3, 16, 2**31, 2**32 - 1])
+            offset = chance.choice([0, 0, 0, 1, 2, 4, 8]) if self.often(0.98) else chance.choice([3, 16, 2**31, 2**32 - 1])
             return (16, self.target(POINTER), self.operand(POINTER), offset)
         if opcode == 17:
             size = self.size()
@@ -149,7 +150,7 @@ class Maker:
             kind = self.present(KINDS)
             return (18, self.operand(POINTER), self.operand(kind))
         if opcode == 19:
-            kind = self.present(TYPES)
+            kind = self.present(TYPES if self.often(0.15) else TYPES[:-1])
             return (19, self.target(kind), self.operand(POINTER), kind)
         if opcode == 20:
             return (20, self.operand(POINTER), self.operand(POINTER), chance.choice([0, 1, 1, 2, 4, 4, 8, 8, 16, 3]))
@@ -159,9 +160,9 @@ class Maker:
         """Mostly of a later function, so that most calls return."""
         chance = self.chance
         later = range(self.inside + 1, len(self.functions))
-        if not later and self.often(0.8):
+        if not later and self.often(0.9):
             return (21, (0, 0))
-        number = chance.choice(later) if later and self.often(0.93) else chance.randrange(len(self.functions))
+        number = chance.choice(later) if later and self.often(0.97) else chance.randrange(len(self.functions))
         callee = self.functions[number]
         arguments = [self.operand(self.kind_of[parameter]) for parameter in callee["parameters"]]
         if self.often(0.2) and arguments:
@@ -169,9 +170,8 @@ class Maker:
         if self.often(0.1):
             arguments = arguments[:-1] if self.often(0.5) else arguments + [self.operand(chance.choice(KINDS))]
         to = None
-        if self.often(0.8):
-            target = chance.randrange(len(self.kind_of))
-            to = (target, self.type(self.kind_of[target]))
+        if self.often(0.93):
+            to = (self.target(self.gives[number]), self.type(self.gives[number]))
         context = self.operand(self.kind_of[callee["context"]]) if self.often(0.6) else None
         pointer = chance.choice(self.held[POINTER]) if self.often(0.6 if callee["pointer"] else 0.1) else None
         return (4, to, context, number, arguments, pointer)
@@ -179,7 +179,7 @@ class Maker:
     def stale(self, number):
         """Now and then an access through a pointer that another function made."""
         slots = self.functions[number]["slots"]
-        if not slots or self.often(0.6):
+        if not slots or self.often(0.8):
             return []
         return self.access(self.chance.choice(slots)[0])
 
@@ -191,7 +191,7 @@ class Maker:
     def kept_from_last_call(self):
         """An access through a pointer that the call before left behind; then this call's own slot is left behind."""
         slots = self.functions[self.inside]["slots"]
-        if not slots or self.often(0.6):
+        if not slots or self.often(0.8):
             return []
         kept = self.chance.choice(self.held[POINTER])
         return self.access(kept) + [(2, kept, (0, self.chance.choice(slots)[0]), POINTER)]
@@ -225,18 +225,27 @@ class Maker:
             numbers = [chance.choice([0, 1, 1, 2, 7, 2**32 + 1]) for _ in range(chance.choice([0, 1, 2, 2, 3]))]
             return [(1, self.operand(kind), [(number, label()) for number in numbers], label())]
         if pick < 0.9 and (not forward or self.often(0.3)):
-            kind = chance.choice(self.kind_of)
-            return [(5, self.operand(kind) if self.often(0.75) else None)]
+            kind = self.gives[self.inside] if self.often(0.97) else chance.choice(self.kind_of)
+            return [(5, self.operand(kind) if self.often(0.8) else None)]
         return []
+
+    def body(self, at):
+        """The blocks that the first function goes round through mostly call."""
+        loops = self.inside == 0 and at > 0
+        parts = [[self.call()]] if loops and self.often(0.7) else []
+        for _ in range(self.chance.choice([2, 3, 4, 6] if loops else [0, 1, 2, 3, 4, 6])):
+            parts.append(self.near_a_bound() if self.often(0.04) else [self.instruction()])
+        self.chance.shuffle(parts)
+        return [one for part in parts for one in part + (self.stale(part[0][3]) if part[0][0] == 4 else [])]
 
     def first_block(self):
         """Sets nearly every variable."""
         made = []
         for number, kind in enumerate(self.kind_of):
-            if number < 64 and self.often(0.97):
+            if number < 64 and self.often(0.99):
                 if kind == POINTER and self.often(0.8):
                     made.append((17, number, self.chance.choice([8, 8, 16]), b"" if self.often(0.7) else bytes([1, 0, 1])))
-                elif kind == POINTER and self.constants and self.often(0.5):
+                elif kind == POINTER and self.constants and self.often(0.3):
                     made.append((3, number, self.chance.randrange(len(self.constants))))
                 else:
                     made.append((2, number, self.literal(kind), self.type(kind)))
@@ -258,9 +267,7 @@ class Maker:
             for at, label in enumerate(span):
                 if at == 0 and self.inside:
                     blocks[label] += self.stale(chance.randrange(len(self.functions))) + self.kept_from_last_call()
-                for _ in range(chance.choice([0, 1, 2, 3, 4, 6])):
-                    made = self.near_a_bound() if self.often(0.06) else [self.instruction()]
-                    blocks[label] += made + (self.stale(made[0][3]) if made[0][0] == 4 else [])
+                blocks[label] += self.body(at)
                 blocks[label] += self.ending(span, at, everyone)
         blocks[0] = self.first_block() + blocks[0]
         return {"variables": len(self.kind_of), "constants": self.constants, "functions": self.functions, "blocks": blocks}
