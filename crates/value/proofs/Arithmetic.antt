@@ -2,36 +2,36 @@
 use mathlib.Core.Path.{_≡_, refl, sym, ap, _∙_, subst}
 use mathlib.Core.Bool as B
 use mathlib.Core.Bool.{true, false, not, _&&_, _||_}
-use mathlib.Core.List.{List, [], _∷_}
+use mathlib.Core.List.{[], _∷_}
 use mathlib.Core.Option.{some}
-use Prim.Native.Nat.{ℕ, _+_, _-_, _/_, _%_, _<_, _≤_, _^_}
+use Prim.Native.Nat.{ℕ, _-_, _/_, _%_, _<_, _≤_, _^_}
 use native.Mathlib.Omega.{arith}
 use borrow.Author.Tests.{eq-eqb, ne-eqb, eqb-true, le-leb, lt-leb}
 use denote.Enum.Declared.{tagOf}
-use lib.Dec.{leb, eqb}
+use lib.Dec.{T, leb}
 use lib.Ieee.{binary32, binary64}
-use lib.IntN.{ℤ, pos, negsuc, negℤ, _+ℤ_, _-ℤ_, _*ℤ_}
+use lib.IntN.{ℤ, pos, negℤ, _-ℤ_}
 use lib.Signed.{quotZ, remZ}
 use mir.Syntax.{Width}
 use mir.Val.{SFits, toZ, ofZ}
 use mir.ValLaws.{toZ-ofZ}
-use types.Run.{OneOf, miss}
+use types.Run.{OneOf}
 use Rattle.value.specs.Answer.{Answer, ok, refused, need, pick, _>>=_}
 use Rattle.value.specs.Floats.{bits32, bits64, single, double, flip}
 use Rattle.value.specs.Ir.{valueOf, irOf, computed}
-use Rattle.value.specs.Kernel.{worth, Small, Told}
+use Rattle.value.specs.Kernel.{Small}
 use Rattle.value.specs.Refusal.{wrongKinds, outsideWidth, zeroDivisor}
 use Rattle.value.specs.Tags.{kindAt}
-use Rattle.value.specs.Value.{Kind, Value, value, Family, Operation, tag, same, family, isUnsigned, isSigned, size, width, within, integer, bitsOf, checked, operate, arithmetic, negateAs, negated, isZero, bool, u8, u16, u32, u64, i8, i16, i32, i64, f32, f64, char, asn, pointer}
+use Rattle.value.specs.Value.{Kind, Value, value, Family, Operation, tag, same, family, isUnsigned, isSigned, isFloat, size, width, within, integer, bitsOf, checked, operate, arithmetic, negateAs, negated, isZero, bool, u8, u16, u32, u64, i8, i16, i32, i64, f32, f64, char, asn, pointer}
 use Rattle.value.specs.Value as Believed
 use Rattle.value.specs.declared.Computed.{Computed}
 use Rattle.value.specs.declared.Computed.the-variants as C
 use Rattle.value.specs.declared.Single.{Single}
 use Rattle.value.specs.declared.Double.{Double}
 use Rattle.value.specs.declared.IrValue.{IrValue}
-use Rattle.value.specs.declared.IrValue.the-variants.{Bool, U8, U16, U32, U64, I8, I16, I32, I64, F32, F64, Char, Asn, Pointer}
+use Rattle.value.specs.declared.IrValue.the-variants.{F32, F64}
 use Rattle.value.specs.declared.integer.Whole.{Whole}
-use Rattle.value.proofs.Arms.{rest}
+use Rattle.value.proofs.Leftover.{rest, left-over}
 use Rattle.value.proofs.IrValue.{the-type}
 use Rattle.value.proofs.Tags.{kind-of-tag}
 use Rattle.value.proofs.Widths.{Signs, read-back, out}
@@ -39,58 +39,34 @@ use Rattle.value.proofs.Widths.{Signs, read-back, out}
 -- ---- what the last arms of the matches know
 
 -- no integer
+none-within : (f : Family) (v : ℕ) (z : ℤ) → (isUnsigned f || isSigned f) ≡ false → within f v z ≡ false
+none-within Believed.unsigned v z e = absurd (subst T e tt)
+none-within Believed.signed v z e = absurd (subst T e tt)
+none-within Believed.floating v z e = refl
+none-within Believed.neither v z e = refl
+
 pub no-integer : (v : IrValue) (z : ℤ) → OneOf (rest (1 ∷ 2 ∷ 3 ∷ 4 ∷ 5 ∷ 6 ∷ 7 ∷ 8 ∷ [])) (tagOf the-type v) → C.Refused outsideWidth ≡ computed (checked (valueOf v .kind) z)
-unfolding valueOf family
-no-integer (Bool x) z o = out _ z refl
-no-integer (U8 x) z o = absurd (miss (rest (1 ∷ 2 ∷ 3 ∷ 4 ∷ 5 ∷ 6 ∷ 7 ∷ 8 ∷ [])) 1 tt o)
-no-integer (U16 x) z o = absurd (miss (rest (1 ∷ 2 ∷ 3 ∷ 4 ∷ 5 ∷ 6 ∷ 7 ∷ 8 ∷ [])) 2 tt o)
-no-integer (U32 x) z o = absurd (miss (rest (1 ∷ 2 ∷ 3 ∷ 4 ∷ 5 ∷ 6 ∷ 7 ∷ 8 ∷ [])) 3 tt o)
-no-integer (U64 x) z o = absurd (miss (rest (1 ∷ 2 ∷ 3 ∷ 4 ∷ 5 ∷ 6 ∷ 7 ∷ 8 ∷ [])) 4 tt o)
-no-integer (I8 x) z o = absurd (miss (rest (1 ∷ 2 ∷ 3 ∷ 4 ∷ 5 ∷ 6 ∷ 7 ∷ 8 ∷ [])) 5 tt o)
-no-integer (I16 x) z o = absurd (miss (rest (1 ∷ 2 ∷ 3 ∷ 4 ∷ 5 ∷ 6 ∷ 7 ∷ 8 ∷ [])) 6 tt o)
-no-integer (I32 x) z o = absurd (miss (rest (1 ∷ 2 ∷ 3 ∷ 4 ∷ 5 ∷ 6 ∷ 7 ∷ 8 ∷ [])) 7 tt o)
-no-integer (I64 x) z o = absurd (miss (rest (1 ∷ 2 ∷ 3 ∷ 4 ∷ 5 ∷ 6 ∷ 7 ∷ 8 ∷ [])) 8 tt o)
-no-integer (F32 x) z o = out _ z refl
-no-integer (F64 x) z o = out _ z refl
-no-integer (Char x) z o = out _ z refl
-no-integer (Asn x) z o = out _ z refl
-no-integer (Pointer x) z o = out _ z refl
+unfolding family
+no-integer v z o =
+    out (valueOf v .kind) z
+    (none-within (family (valueOf v .kind)) _ z (left-over (λ (k : Kind). isUnsigned (family k) || isSigned (family k)) (rest (1 ∷ 2 ∷ 3 ∷ 4 ∷ 5 ∷ 6 ∷ 7 ∷ 8 ∷ [])) v tt o))
 
 -- no signed integer
 pub no-sign : (v : IrValue) → OneOf (rest (5 ∷ 6 ∷ 7 ∷ 8 ∷ [])) (tagOf the-type v) → isSigned (family (valueOf v .kind)) ≡ false
-unfolding valueOf family
-no-sign (Bool x) o = refl
-no-sign (U8 x) o = refl
-no-sign (U16 x) o = refl
-no-sign (U32 x) o = refl
-no-sign (U64 x) o = refl
-no-sign (I8 x) o = absurd (miss (rest (5 ∷ 6 ∷ 7 ∷ 8 ∷ [])) 5 tt o)
-no-sign (I16 x) o = absurd (miss (rest (5 ∷ 6 ∷ 7 ∷ 8 ∷ [])) 6 tt o)
-no-sign (I32 x) o = absurd (miss (rest (5 ∷ 6 ∷ 7 ∷ 8 ∷ [])) 7 tt o)
-no-sign (I64 x) o = absurd (miss (rest (5 ∷ 6 ∷ 7 ∷ 8 ∷ [])) 8 tt o)
-no-sign (F32 x) o = refl
-no-sign (F64 x) o = refl
-no-sign (Char x) o = refl
-no-sign (Asn x) o = refl
-no-sign (Pointer x) o = refl
+unfolding family
+no-sign v o = left-over (λ (k : Kind). isSigned (family k)) (rest (5 ∷ 6 ∷ 7 ∷ 8 ∷ [])) v tt o
 
 -- neither a signed integer nor a float
+none-negated : (f : Family) (v : Value) → (isSigned f || isFloat f) ≡ false → C.Refused wrongKinds ≡ computed (negateAs f v)
+unfolding computed
+none-negated Believed.unsigned v e = refl
+none-negated Believed.signed v e = absurd (subst T e tt)
+none-negated Believed.floating v e = absurd (subst T e tt)
+none-negated Believed.neither v e = refl
+
 pub no-negation : (v : IrValue) → OneOf (rest (5 ∷ 6 ∷ 7 ∷ 8 ∷ 9 ∷ 10 ∷ [])) (tagOf the-type v) → C.Refused wrongKinds ≡ computed (negated (valueOf v))
-unfolding valueOf family negated computed
-no-negation (Bool x) o = refl
-no-negation (U8 x) o = refl
-no-negation (U16 x) o = refl
-no-negation (U32 x) o = refl
-no-negation (U64 x) o = refl
-no-negation (I8 x) o = absurd (miss (rest (5 ∷ 6 ∷ 7 ∷ 8 ∷ 9 ∷ 10 ∷ [])) 5 tt o)
-no-negation (I16 x) o = absurd (miss (rest (5 ∷ 6 ∷ 7 ∷ 8 ∷ 9 ∷ 10 ∷ [])) 6 tt o)
-no-negation (I32 x) o = absurd (miss (rest (5 ∷ 6 ∷ 7 ∷ 8 ∷ 9 ∷ 10 ∷ [])) 7 tt o)
-no-negation (I64 x) o = absurd (miss (rest (5 ∷ 6 ∷ 7 ∷ 8 ∷ 9 ∷ 10 ∷ [])) 8 tt o)
-no-negation (F32 x) o = absurd (miss (rest (5 ∷ 6 ∷ 7 ∷ 8 ∷ 9 ∷ 10 ∷ [])) 9 tt o)
-no-negation (F64 x) o = absurd (miss (rest (5 ∷ 6 ∷ 7 ∷ 8 ∷ 9 ∷ 10 ∷ [])) 10 tt o)
-no-negation (Char x) o = refl
-no-negation (Asn x) o = refl
-no-negation (Pointer x) o = refl
+unfolding family negated
+no-negation v o = none-negated (family (valueOf v .kind)) (valueOf v) (left-over (λ (k : Kind). isSigned (family k) || isFloat (family k)) (rest (5 ∷ 6 ∷ 7 ∷ 8 ∷ 9 ∷ 10 ∷ [])) v tt o)
 
 -- ---- the test of the kinds
 

@@ -1,44 +1,29 @@
 -- FDiv by its cases: two floats of one width, two of other kinds.
-use mathlib.Core.Path.{_≡_, refl, sym, ap, _∙_}
+use mathlib.Core.Path.{_≡_, refl, ap, _∙_}
 use mathlib.Core.Bool as B
-use mathlib.Core.Bool.{true, false, not, _&&_}
-use mathlib.Core.List.{List}
-use Prim.Native.Nat.{ℕ}
+use mathlib.Core.Bool.{true, false, _&&_}
+use mathlib.Core.List.{[], _∷_}
 use denote.Enum.Declared.{tagOf}
-use lib.Dec.{T}
-use lib.Ieee.{binary32, binary64}
-use mir.Val.{hasKey}
-use types.Run.{OneOf, miss}
-use Rattle.value.specs.Answer.{Answer, ok, need}
-use Rattle.value.specs.Divide.{divideBits}
+use lib.Ieee.{binary32, binary64, size}
+use types.Run.{OneOf}
+use Rattle.value.specs.Answer.{Answer, need}
+use Rattle.value.specs.Divide.{roundBits, quotientBits, divideBits}
 use Rattle.value.specs.Floats.{bits32, bits64, single, double}
 use Rattle.value.specs.Ir.{valueOf, irOf, computed}
 use Rattle.value.specs.Refusal.{wrongKinds}
-use Rattle.value.specs.Value.{Kind, Value, value, tag, same, family, isFloat, formatOf, divideFloats, f32, f64}
+use Rattle.value.specs.Value.{Kind, Value, tag, same, family, isFloat, divideFloats}
 use Rattle.value.specs.declared.Computed.the-variants as C
 use Rattle.value.specs.declared.Single.{Single}
 use Rattle.value.specs.declared.Double.{Double}
 use Rattle.value.specs.declared.IrValue.{IrValue}
-use Rattle.value.specs.declared.IrValue.the-variants.{Bool, U8, U16, U32, U64, I8, I16, I32, I64, F32, F64, Char, Asn, Pointer}
+use Rattle.value.specs.declared.IrValue.the-variants.{F32, F64}
 use Rattle.value.proofs.IrValue.{the-type}
+use Rattle.value.proofs.Leftover.{rest, left-over}
 
 -- what is left where both float arms are gone is no float
-pub no-float : (ks : List ℕ) → T (not (hasKey ks 9)) → T (not (hasKey ks 10)) → (v : IrValue) → OneOf ks (tagOf the-type v) → isFloat (family (valueOf v .kind)) ≡ false
-unfolding valueOf family
-no-float ks h k (F32 x) o = absurd (miss ks 9 h o)
-no-float ks h k (F64 x) o = absurd (miss ks 10 k o)
-no-float ks h k (Bool x) o = refl
-no-float ks h k (U8 x) o = refl
-no-float ks h k (U16 x) o = refl
-no-float ks h k (U32 x) o = refl
-no-float ks h k (U64 x) o = refl
-no-float ks h k (I8 x) o = refl
-no-float ks h k (I16 x) o = refl
-no-float ks h k (I32 x) o = refl
-no-float ks h k (I64 x) o = refl
-no-float ks h k (Char x) o = refl
-no-float ks h k (Asn x) o = refl
-no-float ks h k (Pointer x) o = refl
+pub no-float : (v : IrValue) → OneOf (rest (9 ∷ 10 ∷ [])) (tagOf the-type v) → isFloat (family (valueOf v .kind)) ≡ false
+unfolding family
+no-float v o = left-over (λ (k : Kind). isFloat (family k)) (rest (9 ∷ 10 ∷ [])) v tt o
 
 refuses : (t : B.Bool) (a : Answer Value) → t ≡ false → C.Refused wrongKinds ≡ computed (need t wrongKinds a)
 unfolding need computed
@@ -65,3 +50,8 @@ pub quotient64 : {x y : IrValue} {a b r : Double} → x ≡ F64 a → y ≡ F64 
     → C.Value (F64 r) ≡ computed (divideFloats (valueOf x) (valueOf y))
 unfolding divideFloats valueOf irOf computed need tag family
 quotient64 e f g = rw (e, f, g)
+
+-- "ties to even": half of the smallest F32 is 0, and half of three times it is two times it
+pub ties-to-even : (divideBits binary32 0x0000_0001 0x4000_0000 ≡ 0) × (divideBits binary32 0x0000_0003 0x4000_0000 ≡ 2)
+unfolding divideBits quotientBits roundBits size
+ties-to-even = (refl, refl)

@@ -1,13 +1,14 @@
 -- The last arm of a match on a value: a test of kinds that fails for each kind left over fails for the value's.
-use mathlib.Core.Path.{_≡_, refl, sym, ap, _∙_, subst}
+use mathlib.Core.Path.{_≡_, refl, ap, _∙_}
 use mathlib.Core.Bool as B
-use mathlib.Core.Bool.{true, false, not, _&&_}
+use mathlib.Core.Bool.{true, false, not, cond, _&&_}
 use mathlib.Core.List.{List, [], _∷_}
 use mathlib.Core.Logic.{⊎-elim}
 use Prim.Native.Nat.{ℕ}
 use denote.Enum.Declared.{tagOf}
 use lib.Dec.{T}
 use lib.ListN.{getD}
+use mir.Val.{hasKey}
 use types.Run.{OneOf}
 use Rattle.value.specs.Value.{Kind, bool}
 use Rattle.value.specs.Tags.{kinds}
@@ -35,6 +36,14 @@ kind-is (F64 x) = refl
 kind-is (Char x) = refl
 kind-is (Asn x) = refl
 kind-is (Pointer x) = refl
+
+-- the variants, counted from 0, that no arm names
+abbrev kept : (ℕ → B.Bool) → List ℕ → List ℕ
+kept f [] = []
+kept f (n ∷ ns) = cond (f n) (n ∷ kept f ns) (kept f ns)
+
+abbrev pub rest : List ℕ → List ℕ
+rest named = kept (λ (n : ℕ). not (hasKey named n)) (0 ∷ 1 ∷ 2 ∷ 3 ∷ 4 ∷ 5 ∷ 6 ∷ 7 ∷ 8 ∷ 9 ∷ 10 ∷ 11 ∷ 12 ∷ 13 ∷ [])
 
 -- the test fails for each kind of the list
 abbrev pub fails : (Kind → B.Bool) → List ℕ → B.Bool

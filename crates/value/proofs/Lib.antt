@@ -7,7 +7,6 @@ pub mod Comparing
 pub mod Patterns
 pub mod Rounding
 pub mod Fields
-pub mod Arms
 pub mod Divided
 pub mod Reals
 pub mod Cases

@@ -1,5 +1,5 @@
 -- Bit patterns and NaNs, for either format: the code's tests as the definition's, and a pattern that goes in and comes out.
-use mathlib.Core.Path.{_≡_, refl, sym, ap, _∙_, subst}
+use mathlib.Core.Path.{_≡_, refl, sym, _∙_, subst}
 use Prim.Native.Nat.{ℕ, _<_, _≤_, _*_, _%_}
 use mathlib.Core.Bool.{Bool, true, false, not, cond}
 use lib.Dec.{T}

@@ -5,13 +5,13 @@ use Prim.Native.Nat.{ℕ, zero, suc, _+_, _-_, _*_, _/_, _<_, _≤_, _^_}
 use native.Mathlib.Omega.{arith}
 use native.Mathlib.Nat.{le-trans, lt-of-lt-of-le, mul-comm, le-div-iff-mul-le, div-lt-iff-lt-mul}
 use lib.Pow.{pow-mono}
-use borrow.Author.Tests.{lt-ltb, le-ltb, ltb-true, ltb-false}
-use lib.Dec.{T, ltb}
+use borrow.Author.Tests.{lt-ltb, le-ltb, ltb-false}
+use lib.Dec.{ltb}
 use lib.IntN.{ℤ, pos, negsuc, negℤ, natAbs, subℕ, _+ℤ_, _-ℤ_, _*ℤ_}
 use lib.Signed.{mag, nonNeg, ltZ, natAbs-le}
-use mir.Syntax.{Width, w8, w16, w32, w64}
+use mir.Syntax.{Width, w64}
 use mir.Val as Machine
-use mir.Val.{Fits, SFits, hbits, toZ, ofZ}
+use mir.Val.{SFits, hbits, toZ, ofZ}
 use mir.ValLaws.{toZ-ofZ, toZ-pos}
 use Rattle.value.specs.Ir.{computed}
 use Rattle.value.specs.Kernel.{worth, Small, Outside, Told, sized, signedOf}
@@ -22,8 +22,6 @@ use Rattle.value.specs.declared.IrValue.{IrValue}
 use Rattle.value.specs.declared.integer.Whole.{Whole}
 use Rattle.value.specs.declared.integer.Whole.the-variants.{Pos, Neg}
 use Rattle.value.specs.declared.integer.Exact.{Exact}
-use Rattle.value.specs.declared.integer.Exact.the-variants.{Is, Beyond}
-use Rattle.value.specs.declared.integer.Size.{Size}
 use Rattle.value.specs.declared.integer.Size.the-variants.{Fits as Fitting, Over}
 use Rattle.value.proofs.Complement.{down, below, above, below-zero, from-zero}
 use Rattle.value.proofs.Widths.{Counts, Signs, out, count-holds, count-over, count-below, sign-holds, sign-over}

@@ -1,19 +1,19 @@
 -- What the integer kinds share, proved once over the width: which numbers a kind holds, and what the machine's own negation, quotient and remainder give.
 use mathlib.Core.Path.{_≡_, refl, sym, ap, _∙_, subst}
 use mathlib.Core.Bool.{Bool, true, false, not, _&&_}
-use Prim.Native.Nat.{ℕ, zero, suc, _+_, _-_, _*_, _/_, _%_, _<_, _≤_, _^_}
+use Prim.Native.Nat.{ℕ, zero, suc, _-_, _/_, _<_, _≤_, _^_}
 use native.Mathlib.Omega.{arith}
-use native.Mathlib.Nat.{div-le-self, div-one, lt-of-le-of-lt, lt-of-lt-of-le, div-lt-iff-lt-mul, mul-comm, suc-mul}
-use borrow.Author.Tests.{lt-ltb, le-ltb, ltb-true, ltb-false, eq-eqb, ne-eqb}
-use lib.Dec.{ltb, leb, eqb}
-use lib.IntN.{ℤ, pos, negsuc, negℤ, natAbs, _+ℤ_, _-ℤ_}
+use native.Mathlib.Nat.{div-le-self, div-one, lt-of-le-of-lt, div-lt-iff-lt-mul, mul-comm, suc-mul}
+use borrow.Author.Tests.{lt-ltb, le-ltb, ltb-true, ltb-false, ne-eqb}
+use lib.Dec.{ltb, leb}
+use lib.IntN.{ℤ, pos, negsuc, negℤ, _-ℤ_}
 use lib.Pow.{pow-pos}
 use lib.Signed.{mag, quotZ, remZ, mag-rem}
 use mir.Syntax.{Width, w8, w16, w32, w64}
 use mir.Val as Machine
-use mir.Val.{Fits, SFits, hbits, toZ, ofZ}
-use mir.ValLaws.{toZ-ofZ, ofZ-fits, toZ-pos, pow-bits}
-use Rattle.value.specs.Answer.{Answer, ok, refused, need, pick, _>>=_}
+use mir.Val.{SFits, hbits, toZ, ofZ}
+use mir.ValLaws.{toZ-ofZ, ofZ-fits, pow-bits}
+use Rattle.value.specs.Answer.{Answer, ok, need, pick, _>>=_}
 use Rattle.value.specs.Ir.{valueOf, irOf, computed}
 use Rattle.value.specs.Refusal.{outsideWidth, zeroDivisor}
 use Rattle.value.specs.Value.{Kind, Value, value, Family, signed, unsigned, family, isSigned, size, width, within, integer, bitsOf, checked, operate, isZero, u8, u16, u32, u64, i8, i16, i32, i64}

@@ -1,7 +1,7 @@
 -- What the private functions of the integer kernel say of their numbers. No public contract cites this.
 use mathlib.Core.Bool.{Bool, true, false, cond}
 use mathlib.Core.Path.{_≡_}
-use Prim.Native.Nat.{ℕ, suc, _<_, _≤_, _^_}
+use Prim.Native.Nat.{ℕ, _<_, _≤_, _^_}
 use lib.Dec.{ltb}
 use lib.IntN.{ℤ, pos, negsuc, negℤ, natAbs}
 use Rattle.value.specs.declared.integer.Whole.{Whole}

@@ -2,8 +2,8 @@
 // signed integers are the machine's own.
 ghost use mathlib.Core.Path.{_≡_};
 ghost use mathlib.Core.Bool.{false, not, _&&_, _||_};
-ghost use Prim.Native.Nat.{ℕ, _+_, _*_, _<_, _^_};
-ghost use lib.IntN.{ℤ, pos, negsuc, negℤ, natAbs, _+ℤ_, _-ℤ_, _*ℤ_};
+ghost use Prim.Native.Nat.{_*_, _<_, _^_};
+ghost use lib.IntN.{ℤ, pos, negsuc, negℤ, natAbs, _+ℤ_, _*ℤ_};
 ghost use lib.Signed.{nonNeg};
 ghost use Rattle.value.specs.Ir.{valueOf, computed};
 ghost use Rattle.value.specs.Kernel.{worth, Small, Told, sized, signedOf};
@@ -176,6 +176,7 @@ fn number(x: IrValue) -> Whole
     }
 }
 
+// -1 - x turns a number below 0 into its place below 0, at MIN too.
 fn whole_of(x: i64) -> Whole
     ensures { λ r. ⌜ Small r x ⌝ }
 {
@@ -198,6 +199,7 @@ fn stored(x: IrValue, e: Exact) -> Computed
     }
 }
 
+// The whole number as a value of x's kind.
 fn like(x: IrValue, w: Whole) -> Computed
     ensures { λ r. ⌜ r ≡ computed (checked (valueOf x .kind) (worth w)) ⌝ }
 {
@@ -214,6 +216,7 @@ fn like(x: IrValue, w: Whole) -> Computed
     }
 }
 
+// The exact sum.
 fn sum(a: Whole, b: Whole) -> Exact
     ensures { λ r. ⌜ Told r (worth a +ℤ worth b) ⌝ }
 {
@@ -229,6 +232,7 @@ fn sum(a: Whole, b: Whole) -> Exact
     }
 }
 
+// m + n
 fn sum_up(m: u64, n: u64) -> Exact
     ensures { λ r. ⌜ Told r (pos m +ℤ pos n) ⌝ }
 {
@@ -239,6 +243,7 @@ fn sum_up(m: u64, n: u64) -> Exact
     }
 }
 
+// -(m + 1) - (n + 1)
 fn sum_down(m: u64, n: u64) -> Exact
     ensures { λ r. ⌜ Told r (negsuc m +ℤ negsuc n) ⌝ }
 {
@@ -271,6 +276,7 @@ fn opposite(w: Whole) -> Whole
     }
 }
 
+// The exact product: of the sizes, and below 0 where the signs differ.
 fn product(a: Whole, b: Whole) -> Exact
     requires { ⌜ (natAbs (worth a) < 2 ^ 64) × (natAbs (worth b) < 2 ^ 64) ⌝ }
     ensures { λ r. ⌜ Told r (worth a *ℤ worth b) ⌝ }
@@ -297,6 +303,7 @@ fn signed(negative: bool, size: u64) -> Whole
     }
 }
 
+// The number without its sign.
 fn size_of(w: Whole) -> u64
     requires { ⌜ natAbs (worth w) < 2 ^ 64 ⌝ }
     ensures { λ r. ⌜ r ≡ natAbs (worth w) ⌝ }
@@ -316,6 +323,7 @@ fn is_negative(w: Whole) -> bool
     }
 }
 
+// m * n, multiplied only where it fits a word.
 fn times(m: u64, n: u64) -> Size
     ensures { λ r. ⌜ r ≡ sized (m * n) ⌝ }
 {
@@ -364,6 +372,7 @@ fn rem_unsigned(x: IrValue, y: IrValue) -> Computed
     }
 }
 
+// A whole number at each unsigned width, or that it lies outside.
 fn to_u8(w: Whole) -> Computed
     ensures { λ r. ⌜ r ≡ computed (checked Believed.u8 (worth w)) ⌝ }
 {
@@ -418,6 +427,7 @@ fn to_u64(w: Whole) -> Computed
     }
 }
 
+// A whole number at each signed width, or that it lies outside.
 fn to_i8(w: Whole) -> Computed
     ensures { λ r. ⌜ r ≡ computed (checked Believed.i8 (worth w)) ⌝ }
 {
@@ -506,6 +516,7 @@ fn to_i64(w: Whole) -> Computed
     }
 }
 
+// The machine's quotient at each width: MIN / -1 is the one that does not fit.
 fn div_i8(a: i8, b: i8) -> Computed
     ensures { λ r. ⌜ r ≡ computed (operate Believed.div Believed.i8 a b) ⌝ }
 {
@@ -562,14 +573,15 @@ fn div_i64(a: i64, b: i64) -> Computed
     Computed::Value(IrValue::I64(a / b))
 }
 
+// The machine's remainder at each width: refused where the quotient does not fit.
 fn rem_i8(a: i8, b: i8) -> Computed
     ensures { λ r. ⌜ r ≡ computed (operate Believed.mod′ Believed.i8 a b) ⌝ }
 {
     if b == 0 {
         return Computed::Refused(ZERO_DIVISOR);
     }
-    if b == -1 {
-        if a == i8::MIN {
+    if a == i8::MIN {
+        if b == -1 {
             return Computed::Refused(OUTSIDE_WIDTH);
         }
     }
@@ -582,8 +594,8 @@ fn rem_i16(a: i16, b: i16) -> Computed
     if b == 0 {
         return Computed::Refused(ZERO_DIVISOR);
     }
-    if b == -1 {
-        if a == i16::MIN {
+    if a == i16::MIN {
+        if b == -1 {
             return Computed::Refused(OUTSIDE_WIDTH);
         }
     }
@@ -596,8 +608,8 @@ fn rem_i32(a: i32, b: i32) -> Computed
     if b == 0 {
         return Computed::Refused(ZERO_DIVISOR);
     }
-    if b == -1 {
-        if a == i32::MIN {
+    if a == i32::MIN {
+        if b == -1 {
             return Computed::Refused(OUTSIDE_WIDTH);
         }
     }
@@ -610,14 +622,15 @@ fn rem_i64(a: i64, b: i64) -> Computed
     if b == 0 {
         return Computed::Refused(ZERO_DIVISOR);
     }
-    if b == -1 {
-        if a == i64::MIN {
+    if a == i64::MIN {
+        if b == -1 {
             return Computed::Refused(OUTSIDE_WIDTH);
         }
     }
     Computed::Value(IrValue::I64(a % b))
 }
 
+// The machine's negation at each width: MIN has no opposite.
 fn negate_i8(a: i8) -> Computed
     ensures { λ r. ⌜ r ≡ computed (checked Believed.i8 (negℤ a)) ⌝ }
 {

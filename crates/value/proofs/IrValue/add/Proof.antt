@@ -1,5 +1,5 @@
 -- `IrValue::add`: the test of the kinds, then the sum of the two numbers in the kind.
-use mathlib.Core.Path.{_≡_, sym, ap, _∙_, subst}
+use mathlib.Core.Path.{ap, _∙_}
 use lib.IntN.{_+ℤ_}
 use borrow.Author.Tests.{not-true, not-false}
 use Rattle.value.specs.Ir.{valueOf, computed}

@@ -1,12 +1,12 @@
 -- `IrValue::fdiv`: two floats of one width by the quotient of their patterns, any other two refused.
-use mathlib.Core.Path.{_∙_, sym, ap}
+use mathlib.Core.Path.{_∙_, ap}
 use mathlib.Core.List.{[], _∷_}
 use lib.Ieee.{binary32, binary64}
 use Rattle.value.specs.Divide.{divideBits}
 use Rattle.value.specs.Floats.{single, double}
 use Rattle.value.specs.Ir.{valueOf}
-use Rattle.value.specs.Value.{f32, f64, tag}
-use Rattle.value.proofs.Arms.{rest, other-kind}
+use Rattle.value.specs.Value.{f32, f64, same, tag}
+use Rattle.value.proofs.Leftover.{rest, left-over}
 use Rattle.value.proofs.Divided.{no-float, unlike, no-floats, quotient32, quotient64}
 use borrow.Author.Needs.{needs}
 use Rattle.value.proofs.IrValue.fdiv.Statement.{statement}
@@ -22,7 +22,7 @@ returns : tie.Need-returns
 unfolding valueOf tag
 returns c =
     let A = c .before .before .before .before .args in
-    unlike (valueOf (A .self)) (valueOf (A .other)) f32 (ap (λ v. valueOf v .kind) (c .before .before .self .given .1)) (other-kind (rest (9 ∷ [])) f32 (A .other) tt (c .match2 .keys2))
+    unlike (valueOf (A .self)) (valueOf (A .other)) f32 (ap (λ v. valueOf v .kind) (c .before .before .self .given .1)) (left-over (same f32) (rest (9 ∷ [])) (A .other) tt (c .match2 .keys2))
 
 to-bits-requires : tie.Need-to-bits-requires
 to-bits-requires c κs = search needs
@@ -46,7 +46,7 @@ returns-2 : tie.Need-returns-2
 unfolding valueOf tag
 returns-2 c =
     let A = c .before .before .before .before .args in
-    unlike (valueOf (A .self)) (valueOf (A .other)) f64 (ap (λ v. valueOf v .kind) (c .before .before .self2 .given .1)) (other-kind (rest (10 ∷ [])) f64 (A .other) tt (c .match3 .keys2))
+    unlike (valueOf (A .self)) (valueOf (A .other)) f64 (ap (λ v. valueOf v .kind) (c .before .before .self2 .given .1)) (left-over (same f64) (rest (10 ∷ [])) (A .other) tt (c .match3 .keys2))
 
 to-bits-requires-3 : tie.Need-to-bits-requires-3
 to-bits-requires-3 c κs = search needs
@@ -71,7 +71,7 @@ returns-4 c =
     (c .from-bits2 .ensures ∙ ap double (c .before .divide64 .ensures ∙ ap (λ n. divideBits binary64 n (c .before .before .to-bits4 .result)) (c .before .before .before .to-bits3 .ensures) ∙ ap (divideBits binary64 _) (c .before .before .to-bits4 .ensures)))
 
 returns-5 : tie.Need-returns-5
-returns-5 c = let A = c .before .args in no-floats (valueOf (A .self)) (valueOf (A .other)) (no-float (rest (9 ∷ 10 ∷ [])) tt tt (A .self) (c .match .keys3))
+returns-5 c = let A = c .before .args in no-floats (valueOf (A .self)) (valueOf (A .other)) (no-float (A .self) (c .match .keys3))
 
 pub fdiv-spec : {M : Type 1} → statement M
 fdiv-spec =

@@ -1,5 +1,5 @@
 -- `IrValue::mul`: the test of the kinds, then the product of the two numbers in the kind.
-use mathlib.Core.Path.{_≡_, sym, ap, _∙_, subst}
+use mathlib.Core.Path.{sym, ap, _∙_, subst}
 use Prim.Native.Nat.{_<_, _^_}
 use lib.IntN.{_*ℤ_, natAbs}
 use borrow.Author.Tests.{not-true, not-false}

@@ -3,8 +3,7 @@ use borrow.Author.Needs.{needs}
 use mathlib.Core.List.{[], _∷_}
 use Rattle.value.specs.Value.{same, tag, bool}
 use Rattle.value.specs.Ir.{valueOf}
-use Rattle.value.proofs.Arms.{rest}
-use Rattle.value.proofs.Leftover.{left-over}
+use Rattle.value.proofs.Leftover.{left-over, rest}
 use Rattle.value.proofs.Comparing.{not-is, no-not}
 use Rattle.value.proofs.IrValue.not.Statement.{statement}
 use Rattle.value.proofs.IrValue.not.Tie as tie

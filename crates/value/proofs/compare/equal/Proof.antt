@@ -5,8 +5,7 @@ use mathlib.Core.List.{[], _∷_}
 use Rattle.value.specs.Value.{family, isFloat}
 use Rattle.value.specs.Ir.{valueOf}
 use Rattle.value.specs.Compare.{testOf}
-use Rattle.value.proofs.Arms.{rest}
-use Rattle.value.proofs.Leftover.{left-over}
+use Rattle.value.proofs.Leftover.{left-over, rest}
 use Rattle.value.proofs.Comparing.{kinds-differ, no-equality, equal-floats, equal-bits}
 use Rattle.value.proofs.compare.equal.Statement.{statement}
 use Rattle.value.proofs.compare.equal.Tie as tie

@@ -10,8 +10,7 @@ use Rattle.value.specs.Value.{family, isSigned, integer, size, i8, i16, 
 use Rattle.value.specs.Ir.{valueOf}
 use Rattle.value.specs.Compare.{asSigned}
 use Rattle.value.specs.declared.AsI64.the-variants.{Is}
-use Rattle.value.proofs.Arms.{rest}
-use Rattle.value.proofs.Leftover.{left-over}
+use Rattle.value.proofs.Leftover.{left-over, rest}
 use Rattle.value.proofs.Roundtrip.{signed-back}
 use Rattle.value.proofs.Comparing.{told-signed, widens, widened}
 use Rattle.value.proofs.family.as_i64.Statement.{statement}

@@ -6,8 +6,7 @@ use Rattle.value.specs.Answer.{pick}
 use Rattle.value.specs.Value.{Kind, family, isUnsigned}
 use Rattle.value.specs.Ir.{valueOf}
 use Rattle.value.specs.Compare.{asUnsigned}
-use Rattle.value.proofs.Arms.{rest}
-use Rattle.value.proofs.Leftover.{left-over}
+use Rattle.value.proofs.Leftover.{left-over, rest}
 use Rattle.value.proofs.Comparing.{told-unsigned}
 use Rattle.value.proofs.family.as_u64.Statement.{statement}
 use Rattle.value.proofs.family.as_u64.Tie as tie

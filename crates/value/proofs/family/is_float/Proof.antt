@@ -4,8 +4,7 @@ use mathlib.Core.Path.{sym}
 use mathlib.Core.List.{[], _∷_}
 use Rattle.value.specs.Value.{family, isFloat}
 use Rattle.value.specs.Ir.{valueOf}
-use Rattle.value.proofs.Arms.{rest}
-use Rattle.value.proofs.Leftover.{left-over}
+use Rattle.value.proofs.Leftover.{left-over, rest}
 use Rattle.value.proofs.family.is_float.Statement.{statement}
 use Rattle.value.proofs.family.is_float.Tie as tie
 

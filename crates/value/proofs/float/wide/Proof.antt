@@ -1,11 +1,9 @@
 -- `wide`: an F32 is widened exactly, an F64 is itself, and what is no float is a NaN.
 use mathlib.Core.Path.{_∙_, sym, ap}
-use mathlib.Core.List.{[], _∷_}
 use lib.Ieee.{binary32, binary64, ofBits}
 use Rattle.value.specs.Ir.{valueOf}
 use Rattle.value.specs.Orders.{wideOf}
 use Rattle.value.specs.Value.{family, tag}
-use Rattle.value.proofs.Arms.{rest}
 use Rattle.value.proofs.Divided.{no-float}
 use Rattle.value.proofs.Patterns.{no-number}
 use Rattle.value.proofs.Reals.{no-wide}
@@ -46,7 +44,7 @@ returns-2 c =
     c .number64 .ensures ∙ ap (ofBits binary64) (c .before .to-bits2 .ensures) ∙ sym (ap (λ v. wideOf (valueOf v)) (c .before .before .before .v2 .given .1))
 
 returns-3 : tie.Need-returns-3
-returns-3 c = no-number binary64 ∙ sym (no-wide (valueOf (c .before .args .v)) (no-float (rest (9 ∷ 10 ∷ [])) tt tt (c .before .args .v) (c .match .keys3)))
+returns-3 c = no-number binary64 ∙ sym (no-wide (valueOf (c .before .args .v)) (no-float (c .before .args .v) (c .match .keys3)))
 
 pub wide-spec : {M : Type 1} → statement M
 wide-spec =

@@ -1,5 +1,5 @@
 -- `like`: the function of each kind, and none for what is no integer.
-use mathlib.Core.Path.{_≡_, sym, ap, _∙_, subst}
+use mathlib.Core.Path.{sym, ap, _∙_}
 use Rattle.value.specs.Ir.{valueOf, computed}
 use Rattle.value.specs.Kernel.{worth}
 use Rattle.value.specs.Value.{checked}

@@ -1,5 +1,5 @@
 -- `product`: the sizes multiplied, below 0 where one sign is and the other is not.
-use mathlib.Core.Path.{_≡_, sym, ap, _∙_, subst}
+use mathlib.Core.Path.{sym, _∙_}
 use Rattle.value.specs.Kernel.{worth}
 use Rattle.value.proofs.Wholes.{product-is, product-out}
 use borrow.Author.Needs.{needs}

@@ -1,5 +1,5 @@
 -- `stored`: a number outside every width is outside the kind.
-use mathlib.Core.Path.{_≡_, sym, ap, _∙_, subst}
+use mathlib.Core.Path.{ap, _∙_, subst}
 use Rattle.value.specs.Ir.{valueOf, computed}
 use Rattle.value.specs.Kernel.{Told}
 use Rattle.value.specs.Value.{checked}
