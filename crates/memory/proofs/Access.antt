@@ -1,30 +1,29 @@
 -- Accesses through the view: each check of the tables is the believed one's, in the same order; so reads and writes are too.
 use mathlib.Core.Path.{_≡_, refl, ap, _∙_, sym}
-use mathlib.Core.List.{List, [], _∷_}
-use mathlib.Core.Bool.{Bool, true, false, _&&_}
-use Prim.Native.Nat.{ℕ, _+_, _*_, _-_, _/_, _%_, _<_, _≤_, zero, suc}
+use mathlib.Core.List.{List, []}
+use mathlib.Core.Bool.{Bool, true, false}
+use Prim.Native.Nat.{ℕ, _+_, _*_, _-_, _/_, _<_, _≤_, zero, suc}
 use native.Mathlib.Nat.{mod-zero}
 use native.Mathlib.Omega.{arith}
-use lib.ListN.{getD, set, length, take, drop}
+use lib.ListN.{getD, length, take, drop}
 use lib.Seq.{paste, length-paste, take-take}
 use lib.Dec.{ltb, leb, eqb}
-use borrow.Author.Tests.{ltb-true, ltb-false, leb-true, leb-false, eqb-true, eqb-false, lt-ltb, le-ltb, le-leb, lt-leb, eq-eqb, ne-eqb}
-use Rattle.value.specs.Answer.{Answer, ok, refused, need, pick}
-use Rattle.value.specs.Refusal.{notSound, notGivenOut, throughConstant, frameGone, noAllocation, beyondLength, misaligned, noConstant}
-use Rattle.memory.specs.Memory.{Frame, Pointer, constant, local, Memory, noFrame, stands, divides, access, written, writeAt, writeBytes, readConstant, readAt, readBytes}
+use borrow.Author.Tests.{ltb-true, ltb-false, leb-true, leb-false, lt-ltb, le-ltb, le-leb, lt-leb, ne-eqb}
+use Rattle.value.specs.Answer.{Answer, ok, refused, need}
+use Rattle.value.specs.Refusal.{notGivenOut, throughConstant, frameGone, noAllocation, beyondLength, misaligned}
+use Rattle.memory.specs.Memory.{Frame, constant, local, noFrame, stands, divides, access, written, writeAt, writeBytes, readConstant, readAt, readBytes}
 use Rattle.memory.specs.Memory as M
-use Rattle.memory.specs.Tables.{Tables, tables, Both, both, ready, live, bound, pointerAt, alignedOf, withinOf, rankedOf, standingOf, fromStore, accessedAt, localOf, readAccessOf, forWrite, writeAccessOf, putAt, writtenOf, constantOf, getAt, readOf}
-use Rattle.memory.specs.View.{tab, part, bytesOf, allocationsIn, frameIn, pointerIn, view, constantsIn, afterWrite, afterRead}
+use Rattle.memory.specs.Tables.{Tables, both, ready, live, bound, pointerAt, alignedOf, withinOf, rankedOf, standingOf, fromStore, accessedAt, localOf, readAccessOf, forWrite, writeAccessOf, putAt, writtenOf, constantOf, getAt, readOf}
+use Rattle.memory.specs.View.{tab, part, bytesOf, allocationsIn, frameIn, view, constantsIn, afterWrite, afterRead}
 use Rattle.memory.specs.declared.PointerRecord.{PointerRecord}
 use Rattle.memory.specs.declared.Place.{Place}
 use Rattle.memory.specs.declared.Place.the-variants as place
 use Rattle.memory.specs.declared.Source.{Source}
 use Rattle.memory.specs.declared.Source.the-variants as source
-use Rattle.memory.specs.declared.Outcome.{Outcome}
 use Rattle.memory.specs.declared.Outcome.the-variants as outcome
 use Rattle.memory.proofs.Every.{by-test}
-use Rattle.memory.proofs.Tab.{length-tab, getD-tab, part-length, part-part}
-use Rattle.memory.proofs.Laws.{Ready, Within, Standing, Ranked, Accessed, local-at, write-fits}
+use Rattle.memory.proofs.Tab.{length-tab, getD-tab, part-length}
+use Rattle.memory.proofs.Laws.{local-at, write-fits}
 use Rattle.memory.proofs.Facts.{Sound, ready-test}
 use Rattle.memory.proofs.Frames.{ends-up, end-live}
 use Rattle.memory.proofs.Pointers.{count-seen, pointer-seen, seen-local, seen-constant}
@@ -91,7 +90,7 @@ module _ (t : Tables) (so : Sound t) where
   unfolding view
   frame-is i h = getD-tab (t .registers .depth) F i noFrame h
 
-  bytes-are : (lo hi j : ℕ) → j < hi - lo → getD (allocationsIn (t .bounds) (t .store) lo hi) j [] ≡ bytesOf (t .bounds) (t .store) (lo + j)
+  pub bytes-are : (lo hi j : ℕ) → j < hi - lo → getD (allocationsIn (t .bounds) (t .store) lo hi) j [] ≡ bytesOf (t .bounds) (t .store) (lo + j)
   unfolding allocationsIn
   bytes-are lo hi j h = getD-tab (hi - lo) (λ k. bytesOf (t .bounds) (t .store) (lo + k)) j [] h
 

@@ -1,16 +1,16 @@
 -- Allocating through the view: the old allocations keep their bytes, the new one is all 0, and the top frame has one more.
 use mathlib.Core.Path.{_≡_, refl, ap, _∙_, sym}
 use mathlib.Core.List.{List, [], _∷_, _++_}
-use mathlib.Core.Bool.{Bool, true, false}
-use Prim.Native.Nat.{ℕ, _+_, _*_, _-_, _<_, _≤_, zero, suc}
+use mathlib.Core.Bool.{true, false}
+use Prim.Native.Nat.{ℕ, _+_, _*_, _-_, _<_, _≤_}
 use native.Mathlib.Omega.{arith}
-use lib.ListN.{getD, set, length, take, drop, replicate, length-set, length-replicate}
+use lib.ListN.{getD, set, length, replicate, length-set, length-replicate}
 use lib.Seq.{paste, length-paste, take-all, getD-set-same, getD-set-other}
 use lib.Dec.{ltb, leb, eqb}
-use borrow.Author.Tests.{ltb-true, ltb-false, leb-true, leb-false, eqb-true, eqb-false, lt-ltb, le-ltb, le-leb, lt-leb, eq-eqb, ne-eqb}
-use Rattle.value.specs.Answer.{Answer, ok, refused, need, pick}
-use Rattle.value.specs.Refusal.{notSound, allocationsFull, bytesFull, pointersFull}
-use Rattle.memory.specs.Memory.{Frame, Pointer, local, Memory, noFrame, withAllocations, liveCount, liveBytes, allocated, allocate}
+use borrow.Author.Tests.{ltb-true, ltb-false, leb-true, leb-false, eqb-true, eqb-false, lt-ltb, le-ltb, le-leb, lt-leb, ne-eqb}
+use Rattle.value.specs.Answer.{ok, refused, need, pick}
+use Rattle.value.specs.Refusal.{allocationsFull, bytesFull, pointersFull}
+use Rattle.memory.specs.Memory.{Frame, local, noFrame, withAllocations, allocated, allocate}
 use Rattle.memory.specs.Tables.{Tables, tables, Out, registers, more, pointer, pointerAt, pointerSet, zeroed, ready, live, bound, topFirst, idAbove, pointerOk, pointersOk, roomOf, made, unmade, allocatedOf}
 use Rattle.memory.specs.View.{tab, part, bytesOf, allocationsIn, frameIn, pointerIn, view, afterAllocate}
 use Rattle.memory.specs.declared.Registers.{Registers}
@@ -20,7 +20,6 @@ use Rattle.memory.specs.declared.Given.the-variants as given
 use Rattle.memory.proofs.Lists.{zeroed-paste, full}
 use Rattle.memory.proofs.Every.{by-test}
 use Rattle.memory.proofs.Tab.{tab-more, length-tab, tab-same, getD-tab, tab-set, part-length, part-below, part-in}
-use Rattle.memory.proofs.Laws.{Ready, allocated-made}
 use Rattle.memory.proofs.Facts.{FrameSound, Sound, ready-test}
 use Rattle.memory.proofs.Frames.{frame-same, memory-same, firsts-up, ends-up, end-live}
 use Rattle.memory.proofs.Pointers.{given-more, length-pointer-set, pointer-other, pointer-put, count-seen, kind-at}

@@ -1,21 +1,19 @@
 -- Bytes through the view: a write changes its own allocation alone, since the others lie apart; a read takes its own bytes.
 use mathlib.Core.Path.{_≡_, refl, ap, _∙_, sym}
-use mathlib.Core.List.{List, [], _∷_, _++_, append-assoc}
-use mathlib.Core.Bool.{Bool, true, false}
+use mathlib.Core.List.{List, [], _++_, append-assoc}
 use mathlib.Core.Logic.{_⊎_, inl, inr}
-use Prim.Native.Nat.{ℕ, _+_, _*_, _-_, _<_, _≤_, zero, suc}
+use Prim.Native.Nat.{ℕ, _+_, _*_, _-_, _<_, _≤_}
 use native.Mathlib.Omega.{arith}
 use lib.ListN.{getD, set, length, take, drop}
-use lib.Seq.{paste, length-paste, take-length}
+use lib.Seq.{paste, take-length}
 use lib.Dec.{ltb}
 use borrow.Author.Tests.{ltb-true, ltb-false}
-use Rattle.memory.specs.Memory.{Frame, Memory, noFrame, withAllocations, overwrite, written}
+use Rattle.memory.specs.Memory.{Frame, noFrame, withAllocations, overwrite, written}
 use Rattle.memory.specs.Memory as M
 use Rattle.memory.specs.Tables.{Tables, tables}
 use Rattle.memory.specs.View.{tab, part, bytesOf, allocationsIn, frameIn, view}
 use Rattle.memory.proofs.Every.{by-test}
 use Rattle.memory.proofs.Tab.{getD-tab, tab-set, part-below, part-above, part-in, part-part}
-use Rattle.memory.proofs.Laws.{Ready}
 use Rattle.memory.proofs.Facts.{Sound}
 use Rattle.memory.proofs.Frames.{frame-same, memory-same, next-first, firsts-up, ends-up, end-live}
 use Rattle.memory.proofs.Allocating.{allocations-same, lt-of-ne}

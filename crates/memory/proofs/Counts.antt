@@ -1,16 +1,16 @@
 -- How many allocations and bytes live: sums over frames fall together, since each frame begins where the one below ends.
-use mathlib.Core.Path.{_≡_, refl, ap, _∙_, sym}
+use mathlib.Core.Path.{_≡_, ap, _∙_}
 use mathlib.Core.List.{List, [], _∷_, _++_, map, map-append}
 use Prim.Native.Nat.{ℕ, _+_, _*_, _-_, _<_, _≤_, zero, suc}
 use native.Mathlib.Numerals.{add-one}
 use native.Mathlib.Omega.{arith}
 use lib.ListN.{getD, length}
-use Rattle.memory.specs.Memory.{Frame, Memory, sum, liveCount, liveBytes}
+use Rattle.memory.specs.Memory.{Frame, sum, liveCount, liveBytes}
 use Rattle.memory.specs.Tables.{Tables, live, bound}
-use Rattle.memory.specs.View.{tab, part, bytesOf, allocationsIn, frameIn, view}
+use Rattle.memory.specs.View.{tab, bytesOf, allocationsIn, frameIn, view}
 use Rattle.memory.proofs.Tab.{length-tab, part-length}
 use Rattle.memory.proofs.Facts.{Sound}
-use Rattle.memory.proofs.Frames.{next-first, firsts-up, ends-up, end-live}
+use Rattle.memory.proofs.Frames.{next-first, ends-up, end-live}
 
 sum-append : (xs ys : List ℕ) → sum (xs ++ ys) ≡ sum xs + sum ys
 unfolding sum

@@ -1,13 +1,13 @@
 -- The memory's part of a sound state as facts, both ways to the test.
-use mathlib.Core.Path.{_≡_, refl, ap, _∙_, sym}
+use mathlib.Core.Path.{_≡_, _∙_}
 use mathlib.Core.List.{List}
-use mathlib.Core.Bool.{Bool, true, false, not, _&&_}
-use Prim.Native.Nat.{ℕ, _+_, _*_, _-_, _<_, _≤_}
+use mathlib.Core.Bool.{true, not}
+use Prim.Native.Nat.{ℕ, _+_, _*_, _<_, _≤_}
 use native.Mathlib.Omega.{arith}
 use lib.ListN.{getD, length}
 use lib.Dec.{ltb, leb, eqb}
-use borrow.Author.Tests.{ltb-true, leb-true, eqb-true, eqb-false, lt-ltb, le-leb, eq-eqb, ne-eqb, not-true}
-use Rattle.memory.specs.Tables.{Tables, ready, readyOf, live, frameWord, every, idAbove, frameOk, boundOk, pointersOk, endsOk, allocationsOk, memoryOk}
+use borrow.Author.Tests.{ltb-true, leb-true, eqb-true, eqb-false, le-leb, eq-eqb, not-true}
+use Rattle.memory.specs.Tables.{Tables, ready, readyOf, live, every, idAbove, frameOk, boundOk, pointersOk, endsOk, allocationsOk, memoryOk}
 use Rattle.memory.proofs.Laws.{both-true, Ready, ready-of}
 use Rattle.memory.proofs.Every.{every-at, every-all}
 use Rattle.memory.proofs.Last.{frame-last, memory-last}

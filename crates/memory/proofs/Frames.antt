@@ -1,26 +1,23 @@
 -- Push and pop through the view: a frame's words are read one by one before and after, and the frames are tabulated again.
 use mathlib.Core.Path.{_≡_, refl, ap, _∙_, sym}
 use mathlib.Core.List.{List, [], _∷_, _++_}
-use mathlib.Core.Bool.{Bool, true, false}
-use mathlib.Core.Option.{Option, none, some}
-use Prim.Native.Nat.{ℕ, _+_, _*_, _-_, _<_, _≤_, zero, suc}
+use mathlib.Core.Option.{Option, some}
+use Prim.Native.Nat.{ℕ, _+_, _*_, _-_, _<_, _≤_}
 use native.Mathlib.Omega.{arith}
-use lib.ListN.{getD, set, length, take, drop, length-set}
+use lib.ListN.{getD, set, length, take, length-set}
 use lib.Seq.{getD-set-same, getD-set-other, take-at}
-use lib.Dec.{ltb, leb, eqb}
-use borrow.Author.Tests.{ltb-true, ltb-false, leb-true, leb-false, lt-ltb, le-ltb, le-leb, lt-leb, eq-eqb}
-use Rattle.value.specs.Answer.{Answer, ok, refused, need, pick}
-use Rattle.value.specs.Refusal.{framesFull, idsSpent, notSound}
+use lib.Dec.{ltb, leb}
+use borrow.Author.Tests.{ltb-true, ltb-false, leb-true, leb-false, lt-ltb, le-ltb, eq-eqb}
+use Rattle.value.specs.Answer.{ok, need}
+use Rattle.value.specs.Refusal.{framesFull, idsSpent}
 use Rattle.memory.specs.Memory.{Back, Frame, Pointer, Memory, frameAt, noFrame, top, pushFrame, popFrame, pushed, popped}
-use Rattle.memory.specs.Tables.{Tables, tables, registers, Both, both, frameSet, pushedOf, poppedOf, lowered, idAbove}
-use Rattle.memory.specs.View.{tab, bytesOf, allocationsIn, variableIn, backIn, frameIn, pointerIn, view, afterPush, afterPop}
+use Rattle.memory.specs.Tables.{Tables, tables, registers, frameSet, pushedOf, poppedOf, lowered, idAbove}
+use Rattle.memory.specs.View.{tab, bytesOf, allocationsIn, backIn, frameIn, view, afterPush, afterPop}
 use Rattle.memory.specs.declared.Registers.{Registers}
-use Rattle.memory.specs.declared.Moved.{Moved}
 use Rattle.memory.specs.declared.Moved.the-variants as moved
 use Rattle.memory.specs.declared.Popped.the-variants as poppedly
 use Rattle.memory.proofs.Every.{by-test}
 use Rattle.memory.proofs.Tab.{tab-none, tab-more, length-tab, tab-same, getD-tab, mono}
-use Rattle.memory.proofs.Laws.{Ready}
 use Rattle.memory.proofs.Facts.{FrameSound, Sound}
 
 -- ---- frames by their words
@@ -59,11 +56,11 @@ frame-set-other l d id place variable k a b c e =
 length-frame-set : (l : List ℕ) (d a b c : ℕ) → length (frameSet l d a b c) ≡ length l
 length-frame-set l d a b c = simp length-set
 
-above-next : (fr : List ℕ) (d counter i : ℕ) → i + 1 < d → idAbove fr d counter i ≡ getD fr (i * 4 + 4) 0
+pub above-next : (fr : List ℕ) (d counter i : ℕ) → i + 1 < d → idAbove fr d counter i ≡ getD fr (i * 4 + 4) 0
 unfolding idAbove
 above-next fr d counter i h = simp (lt-ltb _ _ h)
 
-above-top : (fr : List ℕ) (d counter i : ℕ) → d ≤ i + 1 → idAbove fr d counter i ≡ counter
+pub above-top : (fr : List ℕ) (d counter i : ℕ) → d ≤ i + 1 → idAbove fr d counter i ≡ counter
 unfolding idAbove
 above-top fr d counter i h = simp (le-ltb _ _ h)
 

@@ -1,13 +1,13 @@
 -- A test of many parts, all but the last of which hold, is its last part.
-use mathlib.Core.Path.{_≡_, refl, ap, _∙_, sym}
+use mathlib.Core.Path.{_≡_, refl}
 use mathlib.Core.List.{List, [], _∷_}
-use mathlib.Core.Bool.{Bool, true, false, not, _&&_}
-use Prim.Native.Nat.{ℕ, _+_, _*_, _<_, _≤_}
+use mathlib.Core.Bool.{Bool, true, false}
+use Prim.Native.Nat.{ℕ, _*_, _<_, _≤_}
 use native.Mathlib.Omega.{arith}
 use lib.ListN.{getD, length}
 use lib.Dec.{leb, eqb}
 use borrow.Author.Tests.{lt-ltb, le-leb, lt-leb, eq-eqb, ne-eqb, eqb-true, leb-true}
-use Rattle.value.specs.Value.{tag, size, char, isScalar}
+use Rattle.value.specs.Value.{tag, size, isScalar}
 use Rattle.memory.specs.Stored.{greatestOf}
 use Rattle.memory.specs.Tables.{Tables, State, ready, live, frameWord, every, idAbove, frameOk, pointerOk, pointersOk, endsOk, allocationsOk, memoryOk, soundOf, registersOk, storedOk, variableOk, roomyOf, columns, filledOf, listing, listedOf}
 use Rattle.memory.specs.declared.Outcome.the-variants as outcome

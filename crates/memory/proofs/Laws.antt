@@ -1,15 +1,15 @@
 -- What the tests of the tables' definitions show, read off a chosen answer one test after another.
-use mathlib.Core.Path.{_≡_, refl, ap, _∙_, sym}
+use mathlib.Core.Path.{_≡_, refl, sym}
 use mathlib.Core.List.{List}
-use mathlib.Core.Bool.{Bool, true, false, not, _&&_}
-use Prim.Native.Nat.{ℕ, zero, suc, _+_, _-_, _*_, _<_, _≤_}
+use mathlib.Core.Bool.{Bool, true, false, _&&_}
+use Prim.Native.Nat.{ℕ, _+_, _-_, _*_, _<_, _≤_}
 use native.Mathlib.Omega.{arith}
-use lib.ListN.{getD, set, length, take, drop}
+use lib.ListN.{getD, length}
 use lib.Dec.{ltb, leb, eqb}
-use borrow.Author.Tests.{eqb-true, ltb-true, ltb-false, leb-true, leb-false, eq-eqb, ne-eqb, le-ltb, le-leb, lt-leb}
+use borrow.Author.Tests.{eqb-true, ltb-false, leb-true, leb-false, eq-eqb, ne-eqb, le-ltb, le-leb, lt-leb}
 use Rattle.value.specs.Answer.{pick}
 use Rattle.value.specs.Refusal.{notSound, notGivenOut, throughConstant, frameGone, noAllocation, beyondLength, misaligned, bytesFull, pointersFull}
-use Rattle.memory.specs.Tables.{Tables, ready, readyOf, roomOf, live, topFirst, bound, freshOf, cleared, all, tables, registers, Out, out, made, allocatedOf, withinOf, alignedOf, rankedOf, standingOf, localOf, accessedAt, fromStore, readAccessOf, writeAccessOf, forWrite, pointerAt, frameWord}
+use Rattle.memory.specs.Tables.{Tables, ready, readyOf, roomOf, live, topFirst, bound, freshOf, cleared, all, tables, registers, out, made, allocatedOf, withinOf, alignedOf, rankedOf, standingOf, localOf, accessedAt, fromStore, readAccessOf, writeAccessOf, forWrite, pointerAt, frameWord}
 use Rattle.memory.specs.declared.PointerRecord.{PointerRecord}
 use Rattle.memory.specs.declared.Moved.{Moved}
 use Rattle.memory.specs.declared.Given.{Given}

@@ -8,18 +8,16 @@ use native.Mathlib.Omega.{arith}
 use lib.ListN.{getD, set, length, length-set}
 use lib.Seq.{getD-set-same, getD-set-other}
 use lib.Dec.{ltb, leb, eqb}
-use borrow.Author.Tests.{ltb-true, ltb-false, leb-true, leb-false, eqb-true, eqb-false, lt-ltb, le-ltb, le-leb, lt-leb, eq-eqb}
-use Rattle.value.specs.Answer.{Answer, ok, refused, need, pick}
-use Rattle.value.specs.Refusal.{notGivenOut, throughConstant, frameGone, noAllocation, beyondLength, misaligned}
-use Rattle.memory.specs.Memory.{Frame, Pointer, constant, local, Memory, noFrame, stands, divides, access, written, writeAt, writeBytes, livePointer, liveList}
+use borrow.Author.Tests.{leb-true, leb-false, eqb-true, eqb-false, lt-ltb, le-ltb}
+use Rattle.value.specs.Answer.{Answer, ok, refused, need}
+use Rattle.value.specs.Refusal.{throughConstant, frameGone, noAllocation, beyondLength, misaligned}
+use Rattle.memory.specs.Memory.{Frame, Pointer, constant, local, Memory, stands, divides, access, written, writeAt, writeBytes, livePointer, liveList}
 use Rattle.memory.specs.Memory as M
-use Rattle.memory.specs.Live.{Live, listed}
+use Rattle.memory.specs.Live.{listed}
 use Rattle.memory.specs.Tables.{Tables, ready, pointerAt, rankedOf, standingOf, flagOf, recordOf, filled, Columns, filledOf, roomyOf, listedOf}
 use Rattle.memory.specs.View.{tab, frameIn, pointerIn, view, liveIn}
 use Rattle.memory.specs.declared.PointerRecord.{PointerRecord}
 use Rattle.memory.specs.declared.LiveRecord.{LiveRecord}
-use Rattle.memory.specs.declared.Place.{Place}
-use Rattle.memory.specs.declared.Place.the-variants as place
 use Rattle.memory.specs.declared.Outcome.the-variants as outcome
 use Rattle.memory.proofs.Every.{by-test}
 use Rattle.memory.proofs.Laws.{both-true, no}
@@ -27,7 +25,7 @@ use Rattle.memory.proofs.Tab.{tab-same}
 use Rattle.memory.proofs.Facts.{Sound, ready-test}
 use Rattle.memory.proofs.Last.{roomy-of}
 use Rattle.memory.proofs.Frames.{end-live}
-use Rattle.memory.proofs.Pointers.{pointer-seen, seen-local, seen-constant}
+use Rattle.memory.proofs.Pointers.{seen-local, seen-constant}
 use Rattle.memory.proofs.Counts.{length-allocations}
 use Rattle.memory.proofs.Access.{depth-is, frame-is}
 use Rattle.memory.proofs.Allocating.{lt-of-ne}

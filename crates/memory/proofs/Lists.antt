@@ -1,11 +1,11 @@
 -- Laws of lists: filling, pasting and tabulating, by index.
 use mathlib.Core.Path.{_≡_, refl, ap, _∙_, sym}
-use mathlib.Core.List.{List, [], _∷_, _++_, append-nil, append-assoc}
-use Prim.Native.Nat.{ℕ, _+_, _*_, _-_, _<_, _≤_, zero, suc}
+use mathlib.Core.List.{List, append-nil}
+use Prim.Native.Nat.{ℕ, _+_, _<_, _≤_, zero, suc}
 use native.Mathlib.Numerals.{add-one}
 use native.Mathlib.Nat.{zero-add}
 use native.Mathlib.Omega.{arith}
-use lib.ListN.{getD, set, length, take, drop, replicate, length-take, length-drop, length-append, length-replicate, length-set, getD-replicate}
+use lib.ListN.{getD, set, length, take, drop, replicate, length-replicate, getD-replicate}
 use lib.Seq.{paste, paste-zero, paste-suc, getD-drop, drop-length, take-all}
 use Rattle.memory.specs.Tables.{zeroed}
 

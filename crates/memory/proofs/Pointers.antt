@@ -1,26 +1,24 @@
 -- Pointers through the view: a record that is put is read back, and those below it stay. Offset and constant address.
 use mathlib.Core.Path.{_≡_, refl, ap, _∙_, sym}
 use mathlib.Core.List.{List, [], _∷_, _++_}
-use mathlib.Core.Bool.{Bool, true, false}
-use Prim.Native.Nat.{ℕ, _+_, _*_, _-_, _^_, _<_, _≤_, zero, suc}
+use mathlib.Core.Bool.{true, false}
+use Prim.Native.Nat.{ℕ, _+_, _*_, _-_, _^_, _<_, _≤_}
 use native.Mathlib.Omega.{arith}
 use lib.ListN.{getD, set, length, length-set}
 use lib.Seq.{getD-set-same, getD-set-other}
 use lib.Dec.{ltb, leb, eqb}
-use borrow.Author.Tests.{ltb-true, ltb-false, leb-true, leb-false, eqb-true, lt-ltb, le-ltb, le-leb, lt-leb, eq-eqb}
-use Rattle.value.specs.Answer.{Answer, ok, refused, need, pick}
-use Rattle.value.specs.Refusal.{notSound, notGivenOut, throughConstant, offsetTooLarge, pointersFull}
-use Rattle.memory.specs.Memory.{Frame, Pointer, constant, local, Memory, withPointer, constantAddress, offsetAt, offsetBy}
+use borrow.Author.Tests.{ltb-true, ltb-false, leb-true, leb-false, lt-ltb, le-ltb, eq-eqb}
+use Rattle.value.specs.Answer.{ok, refused, need, pick}
+use Rattle.value.specs.Refusal.{notGivenOut, throughConstant, offsetTooLarge, pointersFull}
+use Rattle.memory.specs.Memory.{Pointer, constant, local, withPointer, constantAddress, offsetAt, offsetBy}
 use Rattle.memory.specs.Memory as M
-use Rattle.memory.specs.Tables.{Tables, tables, registers, Both, both, more, pointer, pointerAt, pointerSet, handed, offsetOf, addressOf, pointerOk, pointersOk}
-use Rattle.memory.specs.View.{tab, frameIn, pointerIn, view, afterPointer}
+use Rattle.memory.specs.Tables.{Tables, tables, registers, both, more, pointer, pointerAt, pointerSet, handed, offsetOf, addressOf, pointerOk, pointersOk}
+use Rattle.memory.specs.View.{tab, pointerIn, view, afterPointer}
 use Rattle.memory.specs.declared.Registers.{Registers}
 use Rattle.memory.specs.declared.PointerRecord.{PointerRecord}
-use Rattle.memory.specs.declared.Given.{Given}
 use Rattle.memory.specs.declared.Given.the-variants as given
 use Rattle.memory.proofs.Every.{by-test}
 use Rattle.memory.proofs.Tab.{tab-more, length-tab, tab-same, getD-tab}
-use Rattle.memory.proofs.Laws.{Ready, keep, skip}
 use Rattle.memory.proofs.Facts.{Sound}
 use Rattle.memory.proofs.Frames.{memory-same}
 

@@ -1,8 +1,7 @@
 -- What the code does to its registers and to each element of the lent tables, stale ones included. `View` joins this to the memory a reader believes.
-use mathlib.Core.Path.{_≡_}
-use mathlib.Core.List.{List, [], _∷_, _++_}
-use mathlib.Core.Bool.{Bool, true, false, not, _&&_}
-use Prim.Native.Nat.{ℕ, zero, suc, _+_, _-_, _*_, _/_, _%_, _<_, _≤_}
+use mathlib.Core.List.{List}
+use mathlib.Core.Bool.{Bool, true, not, _&&_}
+use Prim.Native.Nat.{ℕ, zero, suc, _+_, _-_, _*_, _/_, _%_}
 use lib.ListN.{getD, set, length, take, drop, replicate}
 use lib.Seq.{paste}
 use lib.Dec.{ltb, leb, eqb}

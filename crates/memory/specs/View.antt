@@ -1,6 +1,6 @@
 -- The tables as the memory a reader believes, and what an answer with the tables after it says in that memory's words.
 use Prim.Native.Nat.{ℕ, zero, suc, _+_, _-_, _*_, _/_}
-use mathlib.Core.Bool.{Bool, true, false}
+use mathlib.Core.Bool.{Bool}
 use mathlib.Core.List.{List, [], _∷_, _++_}
 use mathlib.Core.Option.{Option, none, some}
 use lib.ListN.{getD, length, take, drop}
@@ -10,7 +10,7 @@ use Rattle.value.specs.Value.{Value}
 use Rattle.memory.specs.Memory.{Back, Frame, Pointer, constant, local, Memory}
 use Rattle.memory.specs.Live.{Live, listed}
 use Rattle.memory.specs.Stored.{storedValue}
-use Rattle.memory.specs.Tables.{Tables, tables, State, Both, Out, Columns, pointerAt}
+use Rattle.memory.specs.Tables.{Tables, tables, Both, Out, Columns, pointerAt}
 use Rattle.memory.specs.declared.Registers.{Registers}
 use Rattle.memory.specs.declared.PointerRecord.{PointerRecord}
 use Rattle.memory.specs.declared.Moved.{Moved}

@@ -25,7 +25,6 @@ unfolding standingOf
 returns-2 c =
     simp (
       ne-eqb _ _ (c .if2 .taken),
-      c .before .struct-known .given .1,
       lt-leb _ _ (c .before .before .before .if1 .left),
     )
 
@@ -38,7 +37,6 @@ returns-3 c =
     simp (
       c .ranked .ensures,
       eq-eqb _ _ (c .before .if2 .left),
-      c .before .before .struct-known .given .1,
       lt-leb _ _ (c .before .before .before .before .if1 .left),
     )
 
