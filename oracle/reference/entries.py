@@ -8,7 +8,7 @@ import os
 import random
 
 import image
-from image import POINTER
+from image import ASSIGN, CONSTANT_ADDRESS, COPY, DROP, OFFSET, POINTER, READ, RETURN, WRITE
 from image_cases import P1
 from machine import SHORT_TABLE, U8, Machine, Refusal, prepared
 from maker import Maker
@@ -118,12 +118,12 @@ def named():
 
 def moved():
     """A constant's pointer, used with an image that has fewer constants."""
-    first = "i" + simple([(3, TO, 1), BACK], 0, [b"a", b"bc"])
-    for use in [(19, 5, (0, TO), U8), (20, LEFT, (0, TO), 1), (20, LEFT, (0, TO), 9), (20, (0, TO), LEFT, 1), (18, (0, TO), (U8, 1)),
-                (16, 5, (0, TO), 0), (21, (0, TO)), (5, (0, TO))]:
+    first = "i" + simple([(CONSTANT_ADDRESS, TO, 1), BACK], 0, [b"a", b"bc"])
+    for use in [(READ, 5, (0, TO), U8), (COPY, LEFT, (0, TO), 1), (COPY, LEFT, (0, TO), 9), (COPY, (0, TO), LEFT, 1), (WRITE, (0, TO), (U8, 1)),
+                (OFFSET, 5, (0, TO), 0), (DROP, (0, TO)), (RETURN, (0, TO))]:
         for constants in ([], [b"a"], [b"a", b""], [b"a", b"xyz"]):
-            drop = (21, (U8, 0))
-            second = "i" + simple([drop, (2, 2, (POINTER, 0), POINTER), use, (5, None)], 0, constants)
+            drop = (DROP, (U8, 0))
+            second = "i" + simple([drop, (ASSIGN, 2, (POINTER, 0), POINTER), use, (RETURN, None)], 0, constants)
             yield [first, "a8", "s0=14:0", "g1", second, "r1=0", "r1=1", "r1=3", "w1=01", "g1", "g1", "k2", "k1", first, "r1=2", "r1=3"]
 
 

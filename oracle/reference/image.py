@@ -40,6 +40,8 @@ OPCODES = [
     ("Copy", ["operand", "operand", "u32"]),
     ("Drop", ["operand"]),
 ]
+(JUMP, SWITCH, ASSIGN, CONSTANT_ADDRESS, CALL, RETURN, INT_CMP, FLOAT_CMP, ADD, SUB, MUL, DIV, MOD, FDIV, NOT, NEGATE, OFFSET, INITIALIZE,
+ WRITE, READ, COPY, DROP) = range(22)
 
 
 class Refused(Exception):

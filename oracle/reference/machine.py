@@ -5,7 +5,10 @@ Written from document 01 (sections "Refusal numbers" to "The live list"), in its
 
 import struct
 
-from image import ASN, CHAR, POINTER, WIDTHS, fits, flat
+from image import (
+    ADD, ASN, ASSIGN, CALL, CHAR, CONSTANT_ADDRESS, COPY, DIV, DROP, FDIV, FLOAT_CMP, INITIALIZE, INT_CMP, JUMP, MOD, MUL,
+    NEGATE, NOT, OFFSET, POINTER, RETURN, SUB, SWITCH, WIDTHS, WRITE, fits, flat,
+)
 
 BOOL, U8, U16, U32, U64, I8, I16, I32, I64, F32, F64 = range(1, 12)
 UNSIGNED, SIGNED, FLOATS = (U8, U16, U32, U64), (I8, I16, I32, I64), (F32, F64)
@@ -46,19 +49,19 @@ def integer(tag, number):
 
 
 def arithmetic(opcode, left, right):
-    """Add, Sub, Mul, Div, Mod: opcodes 8 to 12."""
+    """Add, Sub, Mul, Div, Mod."""
     need(left[0] == right[0] and left[0] in UNSIGNED + SIGNED, WRONG_KIND)
     a, b = whole(left), whole(right)
-    if opcode == 8:
+    if opcode == ADD:
         return integer(left[0], a + b)
-    if opcode == 9:
+    if opcode == SUB:
         return integer(left[0], a - b)
-    if opcode == 10:
+    if opcode == MUL:
         return integer(left[0], a * b)
     need(b != 0, BY_ZERO)
     quotient = abs(a) // abs(b) if (a < 0) == (b < 0) else -(abs(a) // abs(b))
     divided = integer(left[0], quotient)
-    return divided if opcode == 11 else integer(left[0], a - b * quotient)
+    return divided if opcode == DIV else integer(left[0], a - b * quotient)
 
 
 # A float's width of fraction, and its largest exponent field.
@@ -127,10 +130,10 @@ def ordered(order, family, left, right):
 
 
 def compare(opcode, comparison, left, right):
-    """IntCmp 6: Eq Ne ULt ULe UGt UGe SLt SLe SGt SGe. FloatCmp 7: Eq Ne Lt Le Gt Ge."""
+    """IntCmp: Eq Ne ULt ULe UGt UGe SLt SLe SGt SGe. FloatCmp: Eq Ne Lt Le Gt Ge."""
     if comparison < 2:
         return (BOOL, int(equal(left, right) == (comparison == 0)))
-    family = FLOATS if opcode == 7 else UNSIGNED if comparison < 6 else SIGNED
+    family = FLOATS if opcode == FLOAT_CMP else UNSIGNED if comparison < 6 else SIGNED
     return (BOOL, int(ordered((comparison - 2) % 4, family, left, right)))
 
 
@@ -312,25 +315,25 @@ class Machine:
 
     def result(self, program, opcode, fields):
         """The value that an instruction with a target sets."""
-        if opcode == 2:
+        if opcode == ASSIGN:
             return self.operand(fields[0])
-        if opcode == 3:
+        if opcode == CONSTANT_ADDRESS:
             return (POINTER, self.give(("constant", fields[0])))
-        if opcode in (6, 7):
+        if opcode in (INT_CMP, FLOAT_CMP):
             left, right = self.operand(fields[1]), self.operand(fields[2])
             return compare(opcode, fields[0], left, right)
-        if opcode in (8, 9, 10, 11, 12, 13):
+        if opcode in (ADD, SUB, MUL, DIV, MOD, FDIV):
             left, right = self.operand(fields[-2]), self.operand(fields[-1])
-            return divide_floats(left, right) if opcode == 13 else arithmetic(opcode, left, right)
-        if opcode == 14:
+            return divide_floats(left, right) if opcode == FDIV else arithmetic(opcode, left, right)
+        if opcode == NOT:
             value = self.operand(fields[0])
             need(value[0] == BOOL, WRONG_KIND)
             return value
-        if opcode == 15:
+        if opcode == NEGATE:
             return negate(self.operand(fields[0]))
-        if opcode == 16:
+        if opcode == OFFSET:
             return (POINTER, self.offset_by(self.pointer(fields[0]), fields[1]))
-        if opcode == 17:
+        if opcode == INITIALIZE:
             return self.initialize(*fields)
         return value_from(fields[1], self.read(program, self.pointer(fields[0]), size_of(fields[1])))
 
@@ -338,20 +341,20 @@ class Machine:
         """One instruction done, or Refusal and nothing changed. The machine runs."""
         need(self.place < len(program["flat"]), NO_INSTRUCTION)
         opcode, *fields = program["flat"][self.place]
-        if opcode == 0:
+        if opcode == JUMP:
             self.place = program["labels"][fields[0]]
-        elif opcode == 1:
+        elif opcode == SWITCH:
             self.switch(program["labels"], *fields)
-        elif opcode == 4:
+        elif opcode == CALL:
             self.whole_or_nothing(lambda: self.call(program, *fields))
-        elif opcode == 5:
+        elif opcode == RETURN:
             self.returned(*fields)
         else:
-            if opcode == 18:
+            if opcode == WRITE:
                 self.write_value(*fields)
-            elif opcode == 20:
+            elif opcode == COPY:
                 self.copy(program, *fields)
-            elif opcode != 21:
+            elif opcode != DROP:
                 self.variables[fields[0]] = self.result(program, opcode, fields[1:])
             self.place += 1
 

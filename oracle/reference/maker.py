@@ -3,9 +3,19 @@
 import random
 import struct
 
-from image import CHAR, POINTER, WIDTHS, fits, write
+from image import (
+    ADD, ASSIGN, CALL, CHAR, CONSTANT_ADDRESS, COPY, DIV, DROP, FDIV, FLOAT_CMP, INITIALIZE, INT_CMP, JUMP, MOD, MUL, NEGATE,
+    NOT, OFFSET, POINTER, READ, RETURN, SUB, SWITCH, WIDTHS, WRITE, fits, write,
+)
 from machine import BOOL, F32, FLOATS, I64, SIGNED, SWITCHABLE, U64, U8, UNSIGNED
 from sweep import INTEGERS, KINDS, TYPES, edges, function, start_word
+
+
+# How often an instruction is drawn: once for each time it stands here.
+OFTEN = [
+    ASSIGN, ASSIGN, CONSTANT_ADDRESS, CALL, CALL, CALL, CALL, CALL, CALL, INT_CMP, INT_CMP, FLOAT_CMP, ADD, ADD, SUB, SUB, MUL,
+    DIV, MOD, FDIV, NOT, NEGATE, OFFSET, OFFSET, INITIALIZE, WRITE, WRITE, WRITE, READ, READ, READ, COPY, COPY, DROP,
+]
 
 
 class Maker:
@@ -98,70 +108,70 @@ class Maker:
 
     def instruction(self):
         chance = self.chance
-        opcode = chance.choice([2, 2, 3, 4, 4, 4, 4, 4, 4, 6, 6, 7, 8, 8, 9, 9, 10, 11, 12, 13, 14, 15, 16, 16, 17, 18, 18, 18, 19, 19, 19, 20, 20, 21])
-        if opcode == 2:
+        opcode = chance.choice(OFTEN)
+        if opcode == ASSIGN:
             to = chance.randrange(len(self.kind_of))
-            return (2, to, self.operand(self.kind_of[to]), self.type(self.kind_of[to]))
-        if opcode == 3:
-            return (3, self.target(POINTER), chance.randrange(len(self.constants))) if self.constants else (21, (0, 0))
-        if opcode == 4:
+            return (ASSIGN, to, self.operand(self.kind_of[to]), self.type(self.kind_of[to]))
+        if opcode == CONSTANT_ADDRESS:
+            return (CONSTANT_ADDRESS, self.target(POINTER), chance.randrange(len(self.constants))) if self.constants else (DROP, (0, 0))
+        if opcode == CALL:
             return self.call()
-        if opcode in (6, 7):
+        if opcode in (INT_CMP, FLOAT_CMP):
             return self.comparison(opcode)
-        if opcode in (8, 9, 10):
+        if opcode in (ADD, SUB, MUL):
             kind = self.present(INTEGERS)
             return (opcode, self.target(kind), self.operand(kind), self.operand(kind))
-        if opcode in (11, 12):
+        if opcode in (DIV, MOD):
             kind = self.present(INTEGERS)
             right = self.operand(kind) if self.often(0.5) else (kind, chance.choice([1, 2, 3, 7, (1 << WIDTHS[kind]) - 1]))
             return (opcode, self.target(kind), chance.randrange(2), self.operand(kind), right)
-        if opcode == 13:
+        if opcode == FDIV:
             kind = self.present(FLOATS)
-            return (13, self.target(kind), self.operand(kind), self.operand(kind))
-        if opcode == 14:
-            return (14, self.target(BOOL), self.operand(BOOL))
-        if opcode == 15:
+            return (FDIV, self.target(kind), self.operand(kind), self.operand(kind))
+        if opcode == NOT:
+            return (NOT, self.target(BOOL), self.operand(BOOL))
+        if opcode == NEGATE:
             kind = self.present(SIGNED + FLOATS)
-            return (15, self.target(kind), self.operand(kind))
+            return (NEGATE, self.target(kind), self.operand(kind))
         return self.memory(opcode)
 
     def comparison(self, opcode):
         chance = self.chance
-        comparison = chance.randrange(10 if opcode == 6 else 6)
+        comparison = chance.randrange(10 if opcode == INT_CMP else 6)
         if comparison < 2:
             kind = self.present([kind for kind in KINDS if kind not in (U64, I64, CHAR) or self.often(0.1)])
             kinds = (kind, kind)
         else:
-            family = FLOATS if opcode == 7 else UNSIGNED if comparison < 6 else SIGNED
+            family = FLOATS if opcode == FLOAT_CMP else UNSIGNED if comparison < 6 else SIGNED
             kinds = (self.present(family), self.present(family))
         return (opcode, self.target(BOOL), comparison, self.operand(kinds[0]), self.operand(kinds[1]))
 
     def memory(self, opcode):
         chance = self.chance
-        if opcode == 16:
+        if opcode == OFFSET:
             offset = chance.choice([0, 0, 0, 1, 2, 4, 8]) if self.often(0.98) else chance.choice([3, 16, 2**31, 2**32 - 1])
-            return (16, self.target(POINTER), self.operand(POINTER), offset)
-        if opcode == 17:
+            return (OFFSET, self.target(POINTER), self.operand(POINTER), offset)
+        if opcode == INITIALIZE:
             size = self.size()
             count = min(chance.choice([0, 1, 2, 4, 8, size]), 256)
             count = count if count <= size or self.often(0.1) else size
-            return (17, self.target(POINTER), size, bytes(chance.choice([0, 1, 1, 2, 128, 255]) for _ in range(count)))
-        if opcode == 18:
+            return (INITIALIZE, self.target(POINTER), size, bytes(chance.choice([0, 1, 1, 2, 128, 255]) for _ in range(count)))
+        if opcode == WRITE:
             kind = self.present(KINDS)
-            return (18, self.operand(POINTER), self.operand(kind))
-        if opcode == 19:
+            return (WRITE, self.operand(POINTER), self.operand(kind))
+        if opcode == READ:
             kind = self.present(TYPES if self.often(0.15) else TYPES[:-1])
-            return (19, self.target(kind), self.operand(POINTER), kind)
-        if opcode == 20:
-            return (20, self.operand(POINTER), self.operand(POINTER), chance.choice([0, 1, 1, 2, 4, 4, 8, 8, 16, 3]))
-        return (21, (0, chance.randrange(len(self.kind_of))) if self.often(0.7) else self.literal(chance.choice(KINDS)))
+            return (READ, self.target(kind), self.operand(POINTER), kind)
+        if opcode == COPY:
+            return (COPY, self.operand(POINTER), self.operand(POINTER), chance.choice([0, 1, 1, 2, 4, 4, 8, 8, 16, 3]))
+        return (DROP, (0, chance.randrange(len(self.kind_of))) if self.often(0.7) else self.literal(chance.choice(KINDS)))
 
     def call(self):
         """Mostly of a later function, so that most calls return."""
         chance = self.chance
         later = range(self.inside + 1, len(self.functions))
         if not later and self.often(0.9):
-            return (21, (0, 0))
+            return (DROP, (0, 0))
         number = chance.choice(later) if later and self.often(0.97) else chance.randrange(len(self.functions))
         callee = self.functions[number]
         arguments = [self.operand(self.kind_of[parameter]) for parameter in callee["parameters"]]
@@ -174,7 +184,7 @@ class Maker:
             to = (self.target(self.gives[number]), self.type(self.gives[number]))
         context = self.operand(self.kind_of[callee["context"]]) if self.often(0.6) else None
         pointer = chance.choice(self.held[POINTER]) if self.often(0.6 if callee["pointer"] else 0.1) else None
-        return (4, to, context, number, arguments, pointer)
+        return (CALL, to, context, number, arguments, pointer)
 
     def stale(self, number):
         """Now and then an access through a pointer that another function made."""
@@ -185,8 +195,8 @@ class Maker:
 
     def access(self, variable):
         made = (0, variable)
-        return [self.chance.choice([(19, self.target(U8), made, U8), (18, made, (U8, 1)), (16, self.target(POINTER), made, 0),
-                                    (20, self.operand(POINTER), made, 1), (20, made, self.operand(POINTER), 1)])]
+        return [self.chance.choice([(READ, self.target(U8), made, U8), (WRITE, made, (U8, 1)), (OFFSET, self.target(POINTER), made, 0),
+                                    (COPY, self.operand(POINTER), made, 1), (COPY, made, self.operand(POINTER), 1)])]
 
     def kept_from_last_call(self):
         """An access through a pointer that the call before left behind; then this call's own slot is left behind."""
@@ -194,7 +204,7 @@ class Maker:
         if not slots or self.often(0.8):
             return []
         kept = self.chance.choice(self.held[POINTER])
-        return self.access(kept) + [(2, kept, (0, self.chance.choice(slots)[0]), POINTER)]
+        return self.access(kept) + [(ASSIGN, kept, (0, self.chance.choice(slots)[0]), POINTER)]
 
     def near_a_bound(self):
         """Fresh memory, an offset into it, and an access there."""
@@ -202,9 +212,9 @@ class Maker:
         first, second = self.target(POINTER), self.target(POINTER)
         kind, wide = self.present(TYPES), chance.choice(KINDS)
         data = bytes(chance.choice([0, 1, 1, 1, 2]) for _ in range(chance.choice([0, 4, 8])))
-        access = chance.choice([(19, self.target(kind), (0, second), kind), (18, (0, second), self.operand(wide)),
-                                (20, (0, second), (0, first), chance.choice([1, 2, 4])), (20, (0, first), (0, second), chance.choice([1, 2, 4]))])
-        return [(17, first, chance.choice([8, 8, 16]), data), (16, second, (0, first), chance.choice([0, 0, 0, 1, 2, 4, 4, 8])), access]
+        access = chance.choice([(READ, self.target(kind), (0, second), kind), (WRITE, (0, second), self.operand(wide)),
+                                (COPY, (0, second), (0, first), chance.choice([1, 2, 4])), (COPY, (0, first), (0, second), chance.choice([1, 2, 4]))])
+        return [(INITIALIZE, first, chance.choice([8, 8, 16]), data), (OFFSET, second, (0, first), chance.choice([0, 0, 0, 1, 2, 4, 4, 8])), access]
 
     def ending(self, span, at, all_labels):
         """Mostly forward; the last block of a function mostly returns, that of the first mostly goes round again."""
@@ -219,14 +229,14 @@ class Maker:
         if not forward:
             pick = chance.uniform(0, 0.6) if self.inside == 0 and len(span) > 1 and self.often(0.7) else chance.uniform(0.57, 0.91)
         if pick < 0.3:
-            return [(0, label())]
+            return [(JUMP, label())]
         if pick < 0.6:
             kind = self.present(SWITCHABLE) if self.often(0.98) else chance.choice(KINDS)
             numbers = [chance.choice([0, 1, 1, 2, 7, 2**32 + 1]) for _ in range(chance.choice([0, 1, 2, 2, 3]))]
-            return [(1, self.operand(kind), [(number, label()) for number in numbers], label())]
+            return [(SWITCH, self.operand(kind), [(number, label()) for number in numbers], label())]
         if pick < 0.9 and (not forward or self.often(0.3)):
             kind = self.gives[self.inside] if self.often(0.97) else chance.choice(self.kind_of)
-            return [(5, self.operand(kind) if self.often(0.8) else None)]
+            return [(RETURN, self.operand(kind) if self.often(0.8) else None)]
         return []
 
     def body(self, at):
@@ -236,7 +246,7 @@ class Maker:
         for _ in range(self.chance.choice([2, 3, 4, 6] if loops else [0, 1, 2, 3, 4, 6])):
             parts.append(self.near_a_bound() if self.often(0.04) else [self.instruction()])
         self.chance.shuffle(parts)
-        return [one for part in parts for one in part + (self.stale(part[0][3]) if part[0][0] == 4 else [])]
+        return [one for part in parts for one in part + (self.stale(part[0][3]) if part[0][0] == CALL else [])]
 
     def first_block(self):
         """Sets nearly every variable."""
@@ -244,11 +254,11 @@ class Maker:
         for number, kind in enumerate(self.kind_of):
             if number < 64 and self.often(0.99):
                 if kind == POINTER and self.often(0.8):
-                    made.append((17, number, self.chance.choice([8, 8, 16]), b"" if self.often(0.7) else bytes([1, 0, 1])))
+                    made.append((INITIALIZE, number, self.chance.choice([8, 8, 16]), b"" if self.often(0.7) else bytes([1, 0, 1])))
                 elif kind == POINTER and self.constants and self.often(0.3):
-                    made.append((3, number, self.chance.randrange(len(self.constants))))
+                    made.append((CONSTANT_ADDRESS, number, self.chance.randrange(len(self.constants))))
                 else:
-                    made.append((2, number, self.literal(kind), self.type(kind)))
+                    made.append((ASSIGN, number, self.literal(kind), self.type(kind)))
         first = self.functions[0]
         own = {first["context"], *first["parameters"], *([first["return"]] if first["pointer"] else [])}
         return [one for one in made if one[1] not in own or self.often(0.3)]

@@ -2,7 +2,10 @@
 
 import random
 
-from image import ASN, CHAR, POINTER, WIDTHS, write
+from image import (
+    ADD, ASN, ASSIGN, CALL, CHAR, CONSTANT_ADDRESS, COPY, DIV, DROP, FDIV, FLOAT_CMP, INITIALIZE, INT_CMP, JUMP, MOD, MUL,
+    NEGATE, NOT, OFFSET, POINTER, READ, RETURN, SUB, SWITCH, WIDTHS, WRITE, write,
+)
 from machine import BOOL, F32, F64, FLOATS, I8, SIGNED, U64, U8, UNSIGNED
 
 KINDS = range(1, 15)
@@ -37,6 +40,11 @@ def start_word(function, values, budget):
     return f"s{function}={','.join(map(text, values))}={budget}"
 
 
+def started(*arguments, budget=9):
+    """The start of function 0 with the usual context."""
+    return start_word(0, [CONTEXT, *arguments], budget)
+
+
 def function(**given):
     return {"kind": 0, "entry": 0, "return": 0, "context": 1, "pointer": 0, "parameters": [], "slots": [], **given}
 
@@ -49,14 +57,14 @@ def simple(instructions, parameters=2, constants=(), variables=8, slots=()):
 
 CONTEXT = (POINTER, 0)
 LEFT, RIGHT, TO = (0, 2), (0, 3), 4
-BACK = (5, (0, TO))
+BACK = (RETURN, (0, TO))
 
 
 def binary_forms():
-    yield from [(6, TO, comparison, LEFT, RIGHT) for comparison in range(10)]
-    yield from [(7, TO, comparison, LEFT, RIGHT) for comparison in range(6)]
-    yield from [(opcode, TO, LEFT, RIGHT) for opcode in (8, 9, 10, 13)]
-    yield from [(opcode, TO, flag, LEFT, RIGHT) for opcode in (11, 12) for flag in (0, 1)]
+    yield from [(INT_CMP, TO, comparison, LEFT, RIGHT) for comparison in range(10)]
+    yield from [(FLOAT_CMP, TO, comparison, LEFT, RIGHT) for comparison in range(6)]
+    yield from [(opcode, TO, LEFT, RIGHT) for opcode in (ADD, SUB, MUL, FDIV)]
+    yield from [(opcode, TO, flag, LEFT, RIGHT) for opcode in (DIV, MOD) for flag in (0, 1)]
 
 
 def sweep_binary():
@@ -68,33 +76,33 @@ def sweep_binary():
             for right in values:
                 same_family = any(left[0] in f and right[0] in f for f in (UNSIGNED, SIGNED, FLOATS)) or left[0] == right[0]
                 if same_family or (left in few and right in few):
-                    yield f"{whole} {start_word(0, [CONTEXT, left, right], 9)}"
+                    yield f"{whole} {started(left, right)}"
 
 
 def sweep_unary():
     for tag in KINDS:
         for bits in edges(tag):
             value = (tag, bits)
-            for form in ([(opcode, TO, LEFT)] for opcode in (14, 15)):
-                yield f"{simple(form + [BACK], 1)} {start_word(0, [CONTEXT, value], 9)}"
+            for form in ([(opcode, TO, LEFT)] for opcode in (NOT, NEGATE)):
+                yield f"{simple(form + [BACK], 1)} {started(value)}"
             for kind in TYPES:
-                yield f"{simple([(2, TO, value, kind), BACK], 0)} {start_word(0, [CONTEXT], 9)}"
-            yield f"{simple([(5, LEFT)], 1)} {start_word(0, [CONTEXT, value], 9)}"
-            yield f"{simple([(21, LEFT), (5, None)], 1)} {start_word(0, [value, value], 9)}"
+                yield f"{simple([(ASSIGN, TO, value, kind), BACK], 0)} {started()}"
+            yield f"{simple([(RETURN, LEFT)], 1)} {started(value)}"
+            yield f"{simple([(DROP, LEFT), (RETURN, None)], 1)} {start_word(0, [value, value], 9)}"
             yield from sweep_switch(value)
-    for form in [(2, TO, (0, 7), 2), (14, TO, (0, 7)), (15, TO, (0, 7)), (16, TO, (0, 7), 1), (19, TO, (0, 7), 2), (5, (0, 7)),
-                 (18, (0, 7), (2, 1)), (18, (0, 2), (0, 7)), (18, (2, 1), (0, 7)), (20, (0, 7), (0, 2), 1), (20, (0, 2), (0, 7), 1),
-                 (20, (2, 1), (0, 7), 1), (21, (0, 7)), (8, TO, (0, 7), (0, 6)), (8, TO, (2, 1), (0, 7)), (8, TO, (1, 1), (0, 7)),
-                 (6, TO, 0, (0, 7), (0, 6)), (6, TO, 2, (12, 1), (0, 7)), (7, TO, 0, (0, 7), (2, 1)), (13, TO, (2, 1), (0, 7)),
-                 (1, (0, 7), [], 0)]:
-        yield f"{simple([form, BACK], 1)} a8 {start_word(0, [CONTEXT, (POINTER, 0)], 9)}"
+    for form in [(ASSIGN, TO, (0, 7), 2), (NOT, TO, (0, 7)), (NEGATE, TO, (0, 7)), (OFFSET, TO, (0, 7), 1), (READ, TO, (0, 7), 2), (RETURN, (0, 7)),
+                 (WRITE, (0, 7), (2, 1)), (WRITE, (0, 2), (0, 7)), (WRITE, (2, 1), (0, 7)), (COPY, (0, 7), (0, 2), 1), (COPY, (0, 2), (0, 7), 1),
+                 (COPY, (2, 1), (0, 7), 1), (DROP, (0, 7)), (ADD, TO, (0, 7), (0, 6)), (ADD, TO, (2, 1), (0, 7)), (ADD, TO, (1, 1), (0, 7)),
+                 (INT_CMP, TO, 0, (0, 7), (0, 6)), (INT_CMP, TO, 2, (12, 1), (0, 7)), (FLOAT_CMP, TO, 0, (0, 7), (2, 1)), (FDIV, TO, (2, 1), (0, 7)),
+                 (SWITCH, (0, 7), [], 0)]:
+        yield f"{simple([form, BACK], 1)} a8 {started((POINTER, 0))}"
 
 
 def sweep_switch(value):
-    blocks = [[(1, LEFT, [(2**32 + 1, 2), (1, 1), (7, 2), (7, 1), (value[1], 3), (2**64 - 1, 1)], 4)]]
-    blocks += [[(5, (2, k))] for k in range(4)] + [[]]
+    blocks = [[(SWITCH, LEFT, [(2**32 + 1, 2), (1, 1), (7, 2), (7, 1), (value[1], 3), (2**64 - 1, 1)], 4)]]
+    blocks += [[(RETURN, (2, k))] for k in range(4)] + [[]]
     whole = write({"variables": 4, "constants": [], "functions": [function(parameters=[2])], "blocks": blocks}).hex()
-    yield f"{whole} {start_word(0, [CONTEXT, value], 9)}"
+    yield f"{whole} {started(value)}"
 
 
 def sweep_memory():
@@ -103,54 +111,56 @@ def sweep_memory():
     for length in (0, 1, 2, 4, 7, 8, 9):
         filled = f"a{length} w0={data[:length].hex()}"
         for offset in (0, 1, 2, 3, 4, 5, 6, 7, 8, 9, 12, 16, 2**32 - 1):
-            move = (16, TO, LEFT, offset)
+            move = (OFFSET, TO, LEFT, offset)
             for kind in TYPES:
-                yield f"{simple([move, (19, 5, (0, TO), kind), (5, (0, 5))], 1)} {filled} {start_word(0, [CONTEXT, (POINTER, 0)], 9)}"
+                yield f"{simple([move, (READ, 5, (0, TO), kind), (RETURN, (0, 5))], 1)} {filled} {started((POINTER, 0))}"
             for kind in KINDS:
                 value = (kind, edges(kind)[-1])
-                whole = simple([move, (18, (0, TO), value), (5, None)], 1)
-                yield f"{whole} {filled} {start_word(0, [CONTEXT, (POINTER, 0)], 9)} r0={length}"
+                whole = simple([move, (WRITE, (0, TO), value), (RETURN, None)], 1)
+                yield f"{whole} {filled} {started((POINTER, 0))} r0={length}"
             for size in (0, 1, 2, 3, 4, 5, 8, 9):
-                yield f"{simple([move, (20, (0, 3), (0, TO), size), (5, None)], 2)} {filled} a9 {start_word(0, [CONTEXT, (POINTER, 0), (POINTER, 1)], 9)} r1=9"
-                yield f"{simple([move, (20, (0, TO), (0, 3), size), (5, None)], 2)} {filled} a9 w1={data[:9].hex()} {start_word(0, [CONTEXT, (POINTER, 0), (POINTER, 1)], 9)} r0={length}"
-                yield f"{simple([move, (20, (0, TO), LEFT, size), (5, None)], 1)} {filled} {start_word(0, [CONTEXT, (POINTER, 0)], 9)} r0={length}"
+                two = started((POINTER, 0), (POINTER, 1))
+                yield f"{simple([move, (COPY, RIGHT, (0, TO), size), (RETURN, None)], 2)} {filled} a9 {two} r1=9"
+                yield f"{simple([move, (COPY, (0, TO), RIGHT, size), (RETURN, None)], 2)} {filled} a9 w1={data[:9].hex()} {two} r0={length}"
+                yield f"{simple([move, (COPY, (0, TO), LEFT, size), (RETURN, None)], 1)} {filled} {started((POINTER, 0))} r0={length}"
     for length in (0, 1, 2, 4, 8, 9):
         constants = [b"", data[:length], data]
         for kind in TYPES:
-            whole = simple([(3, TO, 1), (19, 5, (0, TO), kind), (5, (0, 5))], 0, constants)
-            yield f"{whole} {start_word(0, [CONTEXT], 9)} r0={length} r0={length + 1}"
+            whole = simple([(CONSTANT_ADDRESS, TO, 1), (READ, 5, (0, TO), kind), (RETURN, (0, 5))], 0, constants)
+            yield f"{whole} {started()} r0={length} r0={length + 1}"
         for size in (0, 1, 3, 4, 8, 9):
-            whole = simple([(3, TO, 1), (20, LEFT, (0, TO), size), (5, None)], 1, constants)
-            yield f"{whole} a9 {start_word(0, [CONTEXT, (POINTER, 0)], 9)} r0=9"
-    constant = (3, TO, 0)
-    for form in [(18, (0, TO), (2, 1)), (16, 5, (0, TO), 0), (20, (0, TO), LEFT, 1), (20, (0, TO), LEFT, 9), (20, LEFT, (0, TO), 1)]:
-        yield f"{simple([constant, form, (5, None)], 1, [data])} a8 {start_word(0, [CONTEXT, (POINTER, 0)], 9)} w1=01 r1=4 r0=8"
+            whole = simple([(CONSTANT_ADDRESS, TO, 1), (COPY, LEFT, (0, TO), size), (RETURN, None)], 1, constants)
+            yield f"{whole} a9 {started((POINTER, 0))} r0=9"
+    constant = (CONSTANT_ADDRESS, TO, 0)
+    for form in [(WRITE, (0, TO), (2, 1)), (OFFSET, 5, (0, TO), 0), (COPY, (0, TO), LEFT, 1), (COPY, (0, TO), LEFT, 9), (COPY, LEFT, (0, TO), 1)]:
+        yield f"{simple([constant, form, (RETURN, None)], 1, [data])} a8 {started((POINTER, 0))} w1=01 r1=4 r0=8"
 
 
 def sweep_pointers():
     """Each instruction that takes a pointer, over every kind and pointer numbers near the count."""
     for value in [(tag, bits) for tag in KINDS for bits in (edges(tag) if tag == POINTER else edges(tag)[:2])]:
-        for form in [(16, TO, LEFT, 1), (19, TO, LEFT, 2), (18, LEFT, (2, 1)), (20, LEFT, (14, 0), 1), (20, (14, 0), LEFT, 1),
-                     (20, LEFT, (14, 0), 9), (20, LEFT, (2, 0), 1), (20, (14, 0), LEFT, 3)]:
-            yield f"{simple([form, (5, None)], 1)} a8 a3 {start_word(0, [CONTEXT, value], 9)}"
+        for form in [(OFFSET, TO, LEFT, 1), (READ, TO, LEFT, 2), (WRITE, LEFT, (2, 1)), (COPY, LEFT, (14, 0), 1), (COPY, (14, 0), LEFT, 1),
+                     (COPY, LEFT, (14, 0), 9), (COPY, LEFT, (2, 0), 1), (COPY, (14, 0), LEFT, 3)]:
+            yield f"{simple([form, (RETURN, None)], 1)} a8 a3 {started(value)}"
     for size in (0, 1, 2, 3, 8, 255, 256, 257, 32768):
         for count in (0, 1, 2, 3, 8, 255, 256):
-            yield f"{simple([(17, TO, size, bytes(range(1, count + 1)) if count < 256 else bytes(range(256))), BACK], 0)} {start_word(0, [CONTEXT], 9)} r0={size}"
+            first = bytes(k % 256 for k in range(1, count + 1)) if count < 256 else bytes(range(256))
+            yield f"{simple([(INITIALIZE, TO, size, first), BACK], 0)} {started()} r0={size}"
 
 
 def sweep_papers():
     """P1 to P7 and P9 of document 01."""
     whole = "010300010100000001000102000208020002020105010002"
     for argument, budget in ((41, 2), (41, 1), (41, 0), (255, 2)):
-        yield f"{whole} {start_word(0, [CONTEXT, (U8, argument)], budget)}"
-    for form, values in (((15, TO, LEFT), [(I8, 129)]), ((15, TO, LEFT), [(I8, 128)]), ((11, TO, 1, LEFT, RIGHT), [(I8, 249), (I8, 2)]),
-                         ((12, TO, 1, LEFT, RIGHT), [(I8, 249), (I8, 2)]), ((12, TO, 1, LEFT, RIGHT), [(I8, 128), (I8, 255)]),
-                         ((6, TO, 0, LEFT, RIGHT), [(U64, 5), (U64, 5)])):
-        yield f"{simple([form, BACK], len(values))} {start_word(0, [CONTEXT, *values], 9)}"
+        yield f"{whole} {started((U8, argument), budget=budget)}"
+    for form, values in (((NEGATE, TO, LEFT), [(I8, 129)]), ((NEGATE, TO, LEFT), [(I8, 128)]), ((DIV, TO, 1, LEFT, RIGHT), [(I8, 249), (I8, 2)]),
+                         ((MOD, TO, 1, LEFT, RIGHT), [(I8, 249), (I8, 2)]), ((MOD, TO, 1, LEFT, RIGHT), [(I8, 128), (I8, 255)]),
+                         ((INT_CMP, TO, 0, LEFT, RIGHT), [(U64, 5), (U64, 5)])):
+        yield f"{simple([form, BACK], len(values))} {started(*values)}"
     for size, offset in ((4, 4), (4, 2), (4, 6), (0, 0), (0, 8), (0, 9)):
-        moved = simple([(16, TO, LEFT, offset), (20, LEFT, (0, TO), size), (5, None)], 1)
-        yield f"{moved} a8 {start_word(0, [CONTEXT, (POINTER, 0)], 9)} r1={size}"
-    yield f"{simple([(19, TO, LEFT, BOOL), BACK], 1)} a1 w0=02 {start_word(0, [CONTEXT, (POINTER, 0)], 9)}"
+        moved = simple([(OFFSET, TO, LEFT, offset), (COPY, LEFT, (0, TO), size), (RETURN, None)], 1)
+        yield f"{moved} a8 {started((POINTER, 0))} r1={size}"
+    yield f"{simple([(READ, TO, LEFT, BOOL), BACK], 1)} a1 w0=02 {started((POINTER, 0))}"
     yield from sweep_switch((U8, 7))
 
 
@@ -159,24 +169,24 @@ def sweep_named():
     yield from sweep_papers()
     two = {"return": 8, "context": 9}
     swapped = write({"variables": 10, "constants": [], "functions": [function(), function(entry=1, parameters=[2, 3], **two)],
-                     "blocks": [[(4, (4, U8), None, 1, [(U8, 1), (U8, 2)], None), (5, None)],
-                                [(1, (0, 3), [(2, 2)], 3)], [(4, (5, U8), None, 1, [(0, 3), (0, 2)], None), (5, (0, 2))], [(5, (0, 3))]]}).hex()
-    yield f"{swapped} {start_word(0, [CONTEXT], 9)}"
-    uses = [(19, 5, (0, 4), U8), (18, (0, 4), (U8, 1)), (16, 5, (0, 4), 0), (20, (0, 4), (14, 0), 1), (20, (14, 0), (0, 4), 1),
-            (20, (0, 4), (14, 0), 9), (21, (0, 4))]
+                     "blocks": [[(CALL, (4, U8), None, 1, [(U8, 1), (U8, 2)], None), (RETURN, None)], [(SWITCH, RIGHT, [(2, 2)], 3)],
+                                [(CALL, (5, U8), None, 1, [RIGHT, LEFT], None), (RETURN, LEFT)], [(RETURN, RIGHT)]]}).hex()
+    yield f"{swapped} {started()}"
+    uses = [(READ, 5, (0, 4), U8), (WRITE, (0, 4), (U8, 1)), (OFFSET, 5, (0, 4), 0), (COPY, (0, 4), (14, 0), 1), (COPY, (14, 0), (0, 4), 1),
+            (COPY, (0, 4), (14, 0), 9), (DROP, (0, 4))]
     third = {"return": 6, "context": 7}
     for use in uses:
         for slots in ([], [(3, 8)], [(3, 0)]):
             functions = [function(), function(entry=1, slots=[(4, 8)], **two), function(entry=2, slots=slots, **third)]
-            for before in ([], [(4, None, None, 1, [], None)], [(4, None, None, 1, [], None), (4, None, None, 2, [], None)],
-                           [(4, None, None, 1, [], None), use]):
-                blocks = [before + [(5, None)], [(5, None)], [use, (5, None)]]
+            for before in ([], [(CALL, None, None, 1, [], None)], [(CALL, None, None, 1, [], None), (CALL, None, None, 2, [], None)],
+                           [(CALL, None, None, 1, [], None), use]):
+                blocks = [before + [(RETURN, None)], [(RETURN, None)], [use, (RETURN, None)]]
                 whole = write({"variables": 10, "constants": [], "functions": functions, "blocks": blocks}).hex()
-                yield f"{whole} a8 {start_word(0, [CONTEXT], 20)} r1=1 w1=02 r0=8"
+                yield f"{whole} a8 {started(budget=20)} r1=1 w1=02 r0=8"
     kept = write({"variables": 10, "constants": [], "functions": [function(), function(entry=1, slots=[(4, 8)], **two)],
-                  "blocks": [[(17, 5, 8, b""), (4, None, None, 1, [], None), (4, None, None, 1, [], None), (5, None)],
-                             [(19, 3, (0, 5), U64), (2, 5, (0, 4), POINTER), (5, None)]]}).hex()
-    yield f"{kept} {start_word(0, [CONTEXT], 20)}"
+                  "blocks": [[(INITIALIZE, 5, 8, b""), (CALL, None, None, 1, [], None), (CALL, None, None, 1, [], None), (RETURN, None)],
+                             [(READ, 3, (0, 5), U64), (ASSIGN, 5, (0, 4), POINTER), (RETURN, None)]]}).hex()
+    yield f"{kept} {started(budget=20)}"
 
 
 def sweep_calls():
@@ -193,9 +203,10 @@ def called(to, context, arguments, pointer):
         for back in (None, (0, 10), (2, 9), (0, 12)):
             functions = [function(parameters=[2], slots=[(3, 8)]),
                          function(kind=kind, entry=1, pointer=kind, parameters=parameters, slots=slots, **{"return": 8, "context": 9})]
-            blocks = [[(2, 6, (4, 6), 4), (4, to, context, 1, arguments, pointer), (21, (0, 7)), (5, (0, 6))], [(2, 5, (2, 1), 2), (5, back)]]
+            blocks = [[(ASSIGN, 6, (4, 6), 4), (CALL, to, context, 1, arguments, pointer), (DROP, (0, 7)), (RETURN, (0, 6))],
+                      [(ASSIGN, 5, (2, 1), 2), (RETURN, back)]]
             whole = write({"variables": 13, "constants": [], "functions": functions, "blocks": blocks}).hex()
-            yield f"{whole} {start_word(0, [CONTEXT, (2, 3)], 20)}"
+            yield f"{whole} {started((2, 3), budget=20)}"
 
 
 def sweep_starts():
@@ -204,54 +215,54 @@ def sweep_starts():
         for pointer in ((0, 1) if kind == 0 else (1,)):
             for parameters in (([], [2], [2, 3]) if kind == 0 else ([],)):
                 for slots in ([], [(0, 4)], [(1, 1), (2, 2), (2, 3)]):
-                    whole = write({"variables": 4, "constants": [], "blocks": [[], [(21, (0, 0)), (5, (0, 1))], []],
-                                   "functions": [function(kind=kind, pointer=pointer, parameters=parameters, slots=slots, entry=entry)
-                                                 for entry in (1,)]}).hex()
+                    whole = write({"variables": 4, "constants": [], "blocks": [[], [(DROP, (0, 0)), (RETURN, (0, 1))], []],
+                                   "functions": [function(kind=kind, pointer=pointer, parameters=parameters, slots=slots, entry=1)]}).hex()
                     for count in range(5):
-                        yield f"{whole} a4 {start_word(0, [(5, 9)] + [(2, k) for k in range(count)], 5)} {start_word(0, [(5, 9)] + [(2, k) for k in range(count)], 5)}"
+                        word = start_word(0, [(U64, 9)] + [(U8, k) for k in range(count)], 5)
+                        yield f"{whole} a4 {word} {word}"
                     yield f"{whole} {start_word(1, [CONTEXT], 5)}"
-    for blocks in ([[]], [[], []], [[(0, 1)], []], [[(21, (2, 0))]], [[(0, 1)], [(0, 0)]], [[(5, None)]]):
+    for blocks in ([[]], [[], []], [[(JUMP, 1)], []], [[(DROP, (2, 0))]], [[(JUMP, 1)], [(JUMP, 0)]], [[(RETURN, None)]]):
         whole = write({"variables": 2, "constants": [], "functions": [function()], "blocks": blocks}).hex()
         for budget in range(4):
-            yield f"{whole} {start_word(0, [CONTEXT], budget)}"
+            yield f"{whole} {started(budget=budget)}"
 
 
 def sweep_limits():
     """The limits that are ours, from both sides."""
-    loop = [[(4, None, None, 0, [], None), (5, None)]]
+    loop = [[(CALL, None, None, 0, [], None), (RETURN, None)]]
     for slots in ([], [(1, 0)] * 8, [(1, 512)], [(1, 513)]):
         whole = write({"variables": 2, "constants": [b"x"], "functions": [function(slots=slots)], "blocks": loop}).hex()
-        yield f"{whole} {start_word(0, [CONTEXT], 100)}"
-    for body in ([(16, 2, (14, 0), 1)], [(3, 2, 0)], [(17, 2, 0, b"")], [(17, 2, 64, b"")], [(17, 2, 65, b"ab")]):
-        whole = write({"variables": 3, "constants": [b"x"], "functions": [function()], "blocks": [body + [(0, 0)]]}).hex()
-        yield f"{whole} a8 {start_word(0, [CONTEXT], 9000)}"
+        yield f"{whole} {started(budget=100)}"
+    for body in ([(OFFSET, 2, (14, 0), 1)], [(CONSTANT_ADDRESS, 2, 0)], [(INITIALIZE, 2, 0, b"")], [(INITIALIZE, 2, 64, b"")], [(INITIALIZE, 2, 65, b"ab")]):
+        whole = write({"variables": 3, "constants": [b"x"], "functions": [function()], "blocks": [body + [(JUMP, 0)]]}).hex()
+        yield f"{whole} a8 {started(budget=9000)}"
     for size in (32767, 32768, 32769, 2**20):
-        yield f"{simple([(5, None)], 0)} a{size}"
-        yield f"{simple([(5, None)], 0)} a1 a{size - 1} a0 a1"
-        yield f"{simple([(17, 2, min(size, 32768), b'')] * 2, 0)} a{max(0, size - 32768)} {start_word(0, [CONTEXT], 5)}"
+        yield f"{simple([(RETURN, None)], 0)} a{size}"
+        yield f"{simple([(RETURN, None)], 0)} a1 a{size - 1} a0 a1"
+        yield f"{simple([(INITIALIZE, 2, min(size, 32768), b'')] * 2, 0)} a{max(0, size - 32768)} {started(budget=5)}"
     many = " ".join(["a0"] * 511)
     for rest in ("a0 a0", "a0", "r511=0"):
-        yield f"{simple([(5, None)], 0)} {many} {rest}"
+        yield f"{simple([(RETURN, None)], 0)} {many} {rest}"
     for slots in ([(1, 1)], [(1, 1)] * 2, [(1, 32768)]):
-        yield f"{simple([(5, None)], 0, slots=slots)} {many} {start_word(0, [CONTEXT], 5)}"
+        yield f"{simple([(RETURN, None)], 0, slots=slots)} {many} {started(budget=5)}"
     for sizes in ([32768], [32767, 1], [32768, 0], [32767, 2], [1] * 16, [16384, 16384, 1]):
-        yield f"{simple([(5, None)], 0, slots=[(1, size) for size in sizes])} {start_word(0, [CONTEXT], 5)}"
+        yield f"{simple([(RETURN, None)], 0, slots=[(1, size) for size in sizes])} {started(budget=5)}"
 
 
 def sweep_floats():
     """Quotients of random bits: of any size, near one, and near the smallest numbers."""
     chance = random.Random(3)
     for kind, width, top in ((F32, 23, 255), (F64, 52, 2047)):
-        forms = [(13, TO, LEFT, RIGHT), (7, TO, 2, LEFT, RIGHT), (15, TO, LEFT)]
+        forms = [(FDIV, TO, LEFT, RIGHT), (FLOAT_CMP, TO, 2, LEFT, RIGHT), (NEGATE, TO, LEFT)]
         wholes = [simple([form, BACK]) for form in forms]
         for k in range(1500):
             small = [chance.randrange(1, 2 * width), chance.randrange(top // 2, top // 2 + 2 * width)]
             exponents = [small, [top // 2, top // 2 + chance.randrange(-2, 3)], [chance.randrange(top), chance.randrange(top)]][k % 3]
             fractions = [chance.getrandbits(width) & -(1 << chance.randrange(width + 1)) for _ in range(2)]
             left, right = [(kind, chance.getrandbits(1) << (WIDTHS[kind] - 1) | e << width | f) for e, f in zip(exponents, fractions)]
-            yield f"{wholes[0 if k % 10 else k // 10 % 3]} {start_word(0, [CONTEXT, left, right], 9)}"
+            yield f"{wholes[0 if k % 10 else k // 10 % 3]} {started(left, right)}"
 
 
 def sweep():
-    for group in (sweep_named(), sweep_calls(), sweep_starts(), sweep_limits(), sweep_pointers(), sweep_unary(), sweep_memory(), sweep_floats(), sweep_binary()):
-        yield from group
+    for group in (sweep_named, sweep_calls, sweep_starts, sweep_limits, sweep_pointers, sweep_unary, sweep_memory, sweep_floats, sweep_binary):
+        yield from group()
