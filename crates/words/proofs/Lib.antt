@@ -8,3 +8,5 @@ pub mod Parting
 pub mod Table
 pub mod Names
 pub mod Reading
+pub mod Whole
+pub mod Settled

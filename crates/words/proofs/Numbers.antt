@@ -38,6 +38,10 @@ all-digits zero n = refl
 all-digits (suc k) n =
     all-last (digits k (n / 10)) (48 + n % 10) (all-digits k (n / 10)) (rw (le-leb 48 (48 + n % 10) (omega arith), le-leb (48 + n % 10) 57 (omega arith)))
 
+pub all-decimal : (n : ℕ) → allDigits (decimal n) ≡ true
+unfolding decimal
+all-decimal n = all-digits (places n) n
+
 value-digits : (k n : ℕ) → n < 10 ^ k → valueAfter 0 (digits k n) ≡ n
 unfolding digits valueAfter
 value-digits zero n h = omega arith
@@ -118,12 +122,12 @@ and-true true b h = (refl, h)
 and-true false b h = let z : _≡_ {A = ℕ} 0 1 = cc in absurd (omega arith)
 
 -- a first digit, and digits after it
-record First (b : ℕ) (bs : List ℕ) : Type 0 where
-  low : 48 ≤ b
-  high : b ≤ 57
-  after : allDigits bs ≡ true
+pub record First (b : ℕ) (bs : List ℕ) : Type 0 where
+  pub low : 48 ≤ b
+  pub high : b ≤ 57
+  pub after : allDigits bs ≡ true
 
-first : (b : ℕ) (bs : List ℕ) → allDigits (b ∷ bs) ≡ true → First b bs
+pub first : (b : ℕ) (bs : List ℕ) → allDigits (b ∷ bs) ≡ true → First b bs
 unfolding allDigits
 first b bs h =
     let t = and-true (isDigit b) (allDigits bs) h in

@@ -10,7 +10,7 @@ use lib.ListN.{length, getD, take, drop, length-drop, drop-of-length-le}
 use lib.Seq.{take-all, drop-cons, drop-drop, length-take-le}
 use lib.Dec.{eqb}
 use borrow.Author.Tests.{eq-eqb, ne-eqb, eqb-true}
-use Rattle.words.specs.Words.{same, until, onto, words, spanFrom, wordAt, Stands}
+use Rattle.words.specs.Words.{same, until, onto, words, spanFrom, wordAt, Stands, parts, lines}
 use Rattle.words.specs.declared.Span.{Span}
 use Rattle.words.proofs.Numbers.{and-true}
 
@@ -85,7 +85,7 @@ is-same (x ∷ xs) = rw (eq-eqb x x refl) (is-same xs)
 -- ---- words
 
 pub some-word : (s : List ℕ) → 0 < length (words s)
-unfolding words
+unfolding words parts
 some-word [] = omega arith
 some-word (x ∷ xs) =
     elim (ℕ-discrete x 32) [
@@ -103,47 +103,73 @@ length-onto x (w ∷ ws) h = refl
 
 module _ (line : List ℕ) (i : ℕ) where
   pub at-space : i < length line → getD line i 0 ≡ 32 → length (words (drop i line)) ≡ suc (length (words (drop (i + 1) line)))
-  unfolding words
+  unfolding words parts
   at-space h e = ap (λ (l : List ℕ). length (words l)) (at-head line i h) ∙ rw (eq-eqb (getD line i 0) 32 e)
 
   pub at-other : i < length line → (getD line i 0 ≡ 32 → ⊥) → length (words (drop i line)) ≡ length (words (drop (i + 1) line))
-  unfolding words
+  unfolding words parts
   at-other h e =
       ap (λ (l : List ℕ). length (words l)) (at-head line i h)
       ∙ rw (ne-eqb (getD line i 0) 32 e) (length-onto (getD line i 0) (words (drop (i + 1) line)) (some-word (drop (i + 1) line)))
 
   pub at-end : length line ≤ i → length (words (drop i line)) ≡ 1
-  unfolding words
+  unfolding words parts
   at-end h = ap (λ (l : List ℕ). length (words l)) (drop-of-length-le line h)
 
 -- ---- a line as its first word and the rest
 
+module _ (b : ℕ) (last : List (List ℕ)) where
+  pub first-part : (s : List ℕ) → until b s < length s → parts b last s ≡ take (until b s) s ∷ parts b last (drop (suc (until b s)) s)
+  unfolding until parts
+  first-part [] h = absurd (omega arith)
+  first-part (x ∷ xs) h =
+      elim (ℕ-discrete x b) [
+        | yes e ↦ rw (eq-eqb x b e)
+        | no e ↦ rw (ne-eqb x b e) (ap (onto x) (first-part xs (less (rw (ne-eqb x b e) at h))))
+      ]
+    where
+      less : {m n : ℕ} → suc m < suc n → m < n
+      less h = omega arith
+
+  pub last-part : ((x : ℕ) → onto x last ≡ (x ∷ []) ∷ []) → (x : ℕ) (xs : List ℕ) → length (x ∷ xs) ≤ until b (x ∷ xs) → parts b last (x ∷ xs) ≡ (x ∷ xs) ∷ []
+  unfolding until parts
+  last-part f x [] h =
+      elim (ℕ-discrete x b) [
+        | yes e ↦ absurd (none (rw (eq-eqb x b e) at h))
+        | no e ↦ rw (ne-eqb x b e) (f x)
+      ]
+    where
+      none : {n : ℕ} → suc n ≤ 0 → ⊥
+      none h = omega arith
+  last-part f x (y ∷ ys) h =
+      elim (ℕ-discrete x b) [
+        | yes e ↦ absurd (none (rw (eq-eqb x b e) at h))
+        | no e ↦ rw (ne-eqb x b e) (ap (onto x) (last-part f y ys (less (rw (ne-eqb x b e) at h))))
+      ]
+    where
+      none : {n : ℕ} → suc n ≤ 0 → ⊥
+      none h = omega arith
+
+      less : {m n : ℕ} → suc m ≤ suc n → m ≤ n
+      less h = omega arith
+
 pub first-word : (s : List ℕ) → until 32 s < length s → words s ≡ take (until 32 s) s ∷ words (drop (suc (until 32 s)) s)
-unfolding until words
-first-word [] h = absurd (omega arith)
-first-word (x ∷ xs) h =
-    elim (ℕ-discrete x 32) [
-      | yes e ↦ rw (eq-eqb x 32 e)
-      | no e ↦ rw (ne-eqb x 32 e) (ap (onto x) (first-word xs (less (rw (ne-eqb x 32 e) at h))))
-    ]
-  where
-    less : {m n : ℕ} → suc m < suc n → m < n
-    less h = omega arith
+unfolding words
+first-word s h = first-part 32 ([] ∷ []) s h
 
 pub last-word : (s : List ℕ) → length s ≤ until 32 s → words s ≡ s ∷ []
-unfolding until words
+unfolding words parts
 last-word [] h = refl
-last-word (x ∷ xs) h =
-    elim (ℕ-discrete x 32) [
-      | yes e ↦ absurd (none (rw (eq-eqb x 32 e) at h))
-      | no e ↦ rw (ne-eqb x 32 e) (ap (onto x) (last-word xs (less (rw (ne-eqb x 32 e) at h))))
-    ]
-  where
-    less : {m n : ℕ} → suc m ≤ suc n → m ≤ n
-    less h = omega arith
+last-word (x ∷ xs) h = last-part 32 ([] ∷ []) (λ y. refl) x xs h
 
-    none : {n : ℕ} → suc n ≤ 0 → ⊥
-    none h = omega arith
+-- the lines of an input, by the place of its first LF
+pub first-line : (s : List ℕ) → until 10 s < length s → lines s ≡ take (until 10 s) s ∷ lines (drop (suc (until 10 s)) s)
+unfolding lines
+first-line s h = first-part 10 [] s h
+
+pub last-line : (x : ℕ) (xs : List ℕ) → length (x ∷ xs) ≤ until 10 (x ∷ xs) → lines (x ∷ xs) ≡ (x ∷ xs) ∷ []
+unfolding lines
+last-line x xs h = last-part 10 [] (λ y. refl) x xs h
 
 -- how far the first space is from a place on
 abbrev pub gap : List ℕ → ℕ → ℕ

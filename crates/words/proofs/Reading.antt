@@ -13,7 +13,7 @@ use lib.Dec.{leb}
 use borrow.Author.Tests.{le-leb, lt-leb, eq-eqb, ne-eqb}
 use Rattle.value.specs.Answer.{pick}
 use Rattle.words.specs.Number.{number}
-use Rattle.words.specs.Words.{same, words}
+use Rattle.words.specs.Words.{same, words, parts}
 use Rattle.words.specs.Kinds.{name, kinds, names, kindFrom, kindRead, fits, bitsRead}
 use Rattle.words.specs.Pairs.{pairSaid, Said, ended, andMore, valuesFrom, Stored}
 use Rattle.words.specs.declared.Read.the-variants as Read·variants
@@ -56,7 +56,7 @@ unfolding kindRead kindFrom names name kinds same
 empty-is-no-kind = refl
 
 pub words-bound : (s : List ℕ) → length (words s) ≤ length s + 1
-unfolding words
+unfolding words parts
 words-bound [] = omega arith
 words-bound (x ∷ xs) =
     elim (ℕ-discrete x 32) [

@@ -8,6 +8,7 @@ use lib.Dec.{ltb}
 use Rattle.value.specs.Answer.{pick}
 use Rattle.value.specs.Value.{Kind, bool, u8, u16, u32, u64, i8, i16, i32, i64, f32, f64, char, asn, pointer, width}
 use Rattle.value.specs.Value.{same as sameKind}
+use Rattle.words.specs.Ascii.{ascii}
 use Rattle.words.specs.Number.{number}
 use Rattle.words.specs.Words.{same}
 use Rattle.words.specs.declared.Read.{Read}
@@ -16,34 +17,20 @@ use Rattle.words.specs.declared.Read.the-variants.{Number, Bad}
 -- ---- names
 
 unfoldable pub name : Kind → List ℕ
--- Bool
-name bool = 66 ∷ 111 ∷ 111 ∷ 108 ∷ []
--- U8
-name u8 = 85 ∷ 56 ∷ []
--- U16
-name u16 = 85 ∷ 49 ∷ 54 ∷ []
--- U32
-name u32 = 85 ∷ 51 ∷ 50 ∷ []
--- U64
-name u64 = 85 ∷ 54 ∷ 52 ∷ []
--- I8
-name i8 = 73 ∷ 56 ∷ []
--- I16
-name i16 = 73 ∷ 49 ∷ 54 ∷ []
--- I32
-name i32 = 73 ∷ 51 ∷ 50 ∷ []
--- I64
-name i64 = 73 ∷ 54 ∷ 52 ∷ []
--- F32
-name f32 = 70 ∷ 51 ∷ 50 ∷ []
--- F64
-name f64 = 70 ∷ 54 ∷ 52 ∷ []
--- Char
-name char = 67 ∷ 104 ∷ 97 ∷ 114 ∷ []
--- Asn
-name asn = 65 ∷ 115 ∷ 110 ∷ []
--- Pointer
-name pointer = 80 ∷ 111 ∷ 105 ∷ 110 ∷ 116 ∷ 101 ∷ 114 ∷ []
+name bool = ascii "Bool"
+name u8 = ascii "U8"
+name u16 = ascii "U16"
+name u32 = ascii "U32"
+name u64 = ascii "U64"
+name i8 = ascii "I8"
+name i16 = ascii "I16"
+name i32 = ascii "I32"
+name i64 = ascii "I64"
+name f32 = ascii "F32"
+name f64 = ascii "F64"
+name char = ascii "Char"
+name asn = ascii "Asn"
+name pointer = ascii "Pointer"
 
 -- in the order of their tags, 1 to 14
 unfoldable pub kinds : List Kind

@@ -1,6 +1,7 @@
-pub mod Hex
-pub mod Kinds
+pub mod Ascii
 pub mod Number
+pub mod Hex
+pub mod Words
+pub mod Kinds
 pub mod Pairs
 pub mod Text
-pub mod Words

@@ -30,7 +30,6 @@ unfoldable pub put : List ℕ → Text → Text
 put piece t = text (placed (length piece) (t .place) (length (t .bytes))) (stored piece (t .place) (t .bytes))
 
 -- pieces, one after the other
-unfoldable pub puts : List (List ℕ) → Text → Text
-unfolding put
+abbrev pub puts : List (List ℕ) → Text → Text
 puts [] t = t
 puts (p ∷ ps) t = puts ps (put p t)

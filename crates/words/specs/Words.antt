@@ -27,19 +27,20 @@ abbrev pub onto : ℕ → List (List ℕ) → List (List ℕ)
 onto x [] = (x ∷ []) ∷ []
 onto x (p ∷ ps) = (x ∷ p) ∷ ps
 
+-- the parts of a text between bytes b, where no byte at the end makes these parts
+unfoldable pub parts : (b : ℕ) → List (List ℕ) → List ℕ → List (List ℕ)
+parts b last [] = last
+parts b last (x ∷ xs) =
+    let more = parts b last xs in
+    pick (eqb x b) ([] ∷ more) (onto x more)
+
 -- the words of a line. An empty line is one empty word, and so stands one between two spaces: neither can be read as anything
 unfoldable pub words : List ℕ → List (List ℕ)
-words [] = [] ∷ []
-words (x ∷ xs) =
-    let more = words xs in
-    pick (eqb x 32) ([] ∷ more) (onto x more)
+words line = parts 32 ([] ∷ []) line
 
--- the lines of an input
+-- the lines of an input: nothing after the last LF is no line
 unfoldable pub lines : List ℕ → List (List ℕ)
-lines [] = []
-lines (x ∷ xs) =
-    let more = lines xs in
-    pick (eqb x 10) ([] ∷ more) (onto x more)
+lines input = parts 10 [] input
 
 -- where the word at k stands, counted from 0, in words from `at` on, each with one space after it; nowhere is 0 to 0
 unfoldable pub spanFrom : (at : ℕ) → List (List ℕ) → ℕ → Span
@@ -48,7 +49,7 @@ spanFrom at (w ∷ ws) zero = record { from = at; to = at + length w }
 spanFrom at (w ∷ ws) (suc k) = spanFrom (at + length w + 1) ws k
 
 unfoldable pub wordAt : List ℕ → ℕ → Span
-unfolding spanFrom words
+unfolding spanFrom
 wordAt line k = spanFrom 0 (words line) k
 
 -- these bytes stand from one place to another

@@ -7,7 +7,7 @@ ghost use mathlib.Core.Path.{_≡_};
 ghost use Rattle.words.specs.Text.{text, put};
 ghost use Rattle.words.specs.Words.{same as Words·same};
 ghost use Rattle.words.specs.Kinds.{names as Kinds·names};
-ghost use Rattle.words.specs.Kinds.{rows, rowOf, nameOf, kindRead, bitsRead};
+ghost use Rattle.words.specs.Kinds.{rows, rowOf, nameOf, kindRead};
 ghost use Rattle.words.specs.Kinds.{fits as Kinds·fits};
 
 // The names in the order of their tags, 1 to 14: eight bytes each, the first its length.
