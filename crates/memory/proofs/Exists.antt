@@ -15,8 +15,8 @@ use Rattle.value.specs.Value.{Value, Kind, value, tag, size, char, isScalar, is
 use Rattle.value.specs.Value as kind
 use Rattle.memory.specs.Memory.{Back, Frame, Pointer, constant, local, Memory, noFrame, frameAt, liveCount, liveBytes}
 use Rattle.memory.specs.Memory as M
-use Rattle.memory.specs.Stored.{kindAt, valueIn, greatestOf, isValue, storedValue}
-use Rattle.memory.specs.Sound.{rising, goodVar, goodBack, goodBacks, soundMemory, goodValue, goodValues, soundMachine}
+use Rattle.memory.specs.Stored.{kindAt, valueIn, greatest, greatestOf, storedValue}
+use Rattle.memory.specs.Sound.{rising, goodVar, goodBack, goodBacks, soundMemory, goodValue, goodVars, soundMachine, inKind, typed}
 use Rattle.memory.specs.Tables.{Tables, tables, State, state, registers, every, live, pointer, pointerAt, pointerOk, pointersOk, storedOk, variableOk, registersOk, memoryOk, soundOf}
 use Rattle.memory.specs.View.{tab, part, bytesOf, allocationsIn, variableIn, frameIn, pointerIn, view, runningIn, variablesIn}
 use Rattle.memory.specs.declared.PointerRecord.{PointerRecord}
@@ -60,7 +60,7 @@ variable-back none = refl
 variable-back (some x) = refl
 
 variable-small : (v : Option ℕ) → goodVar v ≡ true → variableOut v ≤ 256
-unfolding variableOut
+unfolding variableOut goodVar
 variable-small none e = omega arith
 variable-small (some x) e = let h : x < 256 = ltb-true _ _ e in omega arith
 
@@ -147,8 +147,8 @@ unfolding goodBacks goodBack
 backs-at [] e i h = absurd (not-suc-le-zero h)
 backs-at (f ∷ fs) e zero h =
     let a = both-true (goodBack (f .back)) (goodBacks fs) e .0 in
-    let b = both-true (leb (f .back .place) 4096) (goodVar (f .back .var)) a in
-    (leb-true _ _ (b .0), variable-small _ (b .1))
+    let b = both-true (goodVar (f .back .var)) (leb (f .back .place) 4096) a in
+    (leb-true _ _ (b .1), variable-small _ (b .0))
 backs-at (f ∷ fs) e (suc i) h = backs-at fs (both-true (goodBack (f .back)) (goodBacks fs) e .1) i (le-of-suc-le-suc h)
 
 -- ---- the tables of a machine
@@ -188,9 +188,9 @@ record Good (m : Memory) : Type 0 where
 good-of : (m : Memory) → soundMemory m ≡ true → Good m
 unfolding soundMemory
 good-of m e =
-    let a = both-true (leb 1 (length (m .frames))) _ e in
-    let b = both-true (leb (length (m .frames)) 64) _ (a .1) in
-    let c = both-true (eqb (frameAt (m .frames) 0 .id) 0) _ (b .1) in
+    let z = both-true (leb 1 (length (m .frames)) && leb (length (m .frames)) 64) _ e in
+    let a = both-true (leb 1 (length (m .frames))) (leb (length (m .frames)) 64) (z .0) in
+    let c = both-true (eqb (frameAt (m .frames) 0 .id) 0) _ (z .1) in
     let d = both-true (rising (m .frames) (m .counter)) _ (c .1) in
     let f = both-true (leb (m .counter) 4294967295) _ (d .1) in
     let g = both-true (leb (liveCount (m .frames)) 512) _ (f .1) in
@@ -198,7 +198,7 @@ good-of m e =
     let i = both-true (leb (length (m .pointers)) 4096) (goodBacks (m .frames)) (h .1) in
     record {
       some = leb-true _ _ (a .0);
-      deep = leb-true _ _ (b .0);
+      deep = leb-true _ _ (a .1);
       root = eqb-true _ _ (c .0);
       rises = d .0;
       counted = leb-true _ _ (f .0);
@@ -424,43 +424,54 @@ scalar-of false e = e
 and-true : {a b : Bool} → a ≡ true → b ≡ true → (a && b) ≡ true
 and-true p q = rw (p, q)
 
-value-ok : (k : Kind) (b : ℕ) → isValue (value k b) ≡ true → storedOk (tag k) b ≡ true
-unfolding storedOk isValue isBadChar greatestOf tag size
-value-ok kind.bool b e = e
-value-ok kind.u8 b e = e
-value-ok kind.u16 b e = e
-value-ok kind.u32 b e = e
-value-ok kind.u64 b e = e
-value-ok kind.i8 b e = e
-value-ok kind.i16 b e = e
-value-ok kind.i32 b e = e
-value-ok kind.i64 b e = e
-value-ok kind.f32 b e = e
-value-ok kind.f64 b e = e
-value-ok kind.char b e = let x = both-true (leb b 4294967295) (not (true && not (isScalar b))) e in and-true (x .0) (scalar-of (isScalar b) (x .1))
-value-ok kind.asn b e = e
-value-ok kind.pointer b e = e
+value-ok : (k : Kind) (b : ℕ) → not (isBadChar (value k b)) ≡ true → leb b (greatest k) ≡ true → storedOk (tag k) b ≡ true
+unfolding storedOk isBadChar greatestOf tag size
+value-ok kind.bool b e f = and-true f refl
+value-ok kind.u8 b e f = and-true f refl
+value-ok kind.u16 b e f = and-true f refl
+value-ok kind.u32 b e f = and-true f refl
+value-ok kind.u64 b e f = and-true f refl
+value-ok kind.i8 b e f = and-true f refl
+value-ok kind.i16 b e f = and-true f refl
+value-ok kind.i32 b e f = and-true f refl
+value-ok kind.i64 b e f = and-true f refl
+value-ok kind.f32 b e f = and-true f refl
+value-ok kind.f64 b e f = and-true f refl
+value-ok kind.char b e f = and-true f (scalar-of (isScalar b) e)
+value-ok kind.asn b e f = and-true f refl
+value-ok kind.pointer b e f = and-true f refl
 
-stored-ok : (v : Option Value) → goodValue v ≡ true → storedOk (tagOut v) (bitsOut v) ≡ true
-unfolding tagOut bitsOut goodValue tag
-stored-ok none e = unfold storedOk greatestOf in refl
-stored-ok (some v) e = value-ok (v .kind) (v .bits) e
+stored-ok : (v : Option Value) → goodValue v ≡ true → inKind v ≡ true → storedOk (tagOut v) (bitsOut v) ≡ true
+unfolding tagOut bitsOut goodValue inKind tag
+stored-ok none e f = unfold storedOk greatestOf in refl
+stored-ok (some v) e f = value-ok (v .kind) (v .bits) e f
 
-values-at : (vs : ℕ → Option Value) (n : ℕ) → goodValues vs n ≡ true → (x : ℕ) → x < n → goodValue (vs x) ≡ true
-unfolding goodValues
-values-at vs zero e x h = absurd (not-suc-le-zero h)
-values-at vs (suc n) e x h =
-    let a = both-true (goodValues vs n) (goodValue (vs n)) e in
+vars-at : (vs : ℕ → Option Value) (n : ℕ) → goodVars vs n ≡ true → (x : ℕ) → x < n → goodValue (vs x) ≡ true
+unfolding goodVars
+vars-at vs zero e x h = absurd (not-suc-le-zero h)
+vars-at vs (suc n) e x h =
+    let a = both-true (goodValue (vs n)) (goodVars vs n) e in
     by-test (ltb x n)
-    (λ w. values-at vs n (a .0) x (ltb-true _ _ w))
+    (λ w. vars-at vs n (a .1) x (ltb-true _ _ w))
     (λ w. let k : n ≤ x = ltb-false _ _ w in
     let q : x ≡ n = omega arith in
-    ap (λ y. goodValue (vs y)) q ∙ a .1)
+    ap (λ y. goodValue (vs y)) q ∙ a .0)
 
-variable-ok : (vs : ℕ → Option Value) (x : ℕ) → x < 256 → goodValue (vs x) ≡ true → variableOk (variablesOf vs) x ≡ true
+typed-at : (vs : ℕ → Option Value) (n : ℕ) → typed vs n ≡ true → (x : ℕ) → x < n → inKind (vs x) ≡ true
+unfolding typed
+typed-at vs zero e x h = absurd (not-suc-le-zero h)
+typed-at vs (suc n) e x h =
+    let a = both-true (inKind (vs n)) (typed vs n) e in
+    by-test (ltb x n)
+    (λ w. typed-at vs n (a .1) x (ltb-true _ _ w))
+    (λ w. let k : n ≤ x = ltb-false _ _ w in
+    let q : x ≡ n = omega arith in
+    ap (λ y. inKind (vs y)) q ∙ a .0)
+
+variable-ok : (vs : ℕ → Option Value) (x : ℕ) → x < 256 → goodValue (vs x) ≡ true → inKind (vs x) ≡ true → variableOk (variablesOf vs) x ≡ true
 unfolding variableOk
-variable-ok vs x h e =
-    ap (λ n. storedOk n (getD (variablesOf vs) (x * 2 + 1) 0)) (tag-is vs x h) ∙ ap (storedOk (tagOut (vs x))) (bits-is vs x h) ∙ stored-ok (vs x) e
+variable-ok vs x h e f =
+    ap (λ n. storedOk n (getD (variablesOf vs) (x * 2 + 1) 0)) (tag-is vs x h) ∙ ap (storedOk (tagOut (vs x))) (bits-is vs x h) ∙ stored-ok (vs x) e f
 
 registers-ok : (running : Bool) (place depth : ℕ) → leb place 4096 ≡ true → (running || eqb depth 1) ≡ true → registersOk (flagOut running) place depth ≡ true
 unfolding registersOk flagOut
@@ -478,18 +489,18 @@ pub record Tabled (m : Memory) (running : Bool) (place : ℕ) (vs : ℕ → Opti
   pub next : state .memory .registers .next ≡ place
   pub variables : (x : ℕ) → x < 256 → variablesIn (state .variables) x ≡ vs x
 
--- Every believed machine that meets the list is the view of some sound tables.
-pub every-sound : (m : Memory) (running : Bool) (place : ℕ) (vs : ℕ → Option Value) → soundMachine m running place vs ≡ true → Tabled m running place vs
+-- Every believed machine that meets the list, with values of their kinds, is the view of some sound tables.
+pub every-sound : (m : Memory) (running : Bool) (place : ℕ) (vs : ℕ → Option Value) → soundMachine m running place vs ≡ true → typed vs 256 ≡ true → Tabled m running place vs
 unfolding soundMachine
-every-sound m running place vs e =
+every-sound m running place vs e f =
     let a = both-true (soundMemory m) _ e in
     let b = both-true (leb place 4096) _ (a .1) in
-    let c = both-true (goodValues vs 256) (running || eqb (length (m .frames)) 1) (b .1) in
+    let c = both-true (goodVars vs 256) (running || eqb (length (m .frames)) 1) (b .1) in
     let g = good-of m (a .0) in
     record {
       state = state (tablesOf m running place) (variablesOf vs);
       sound = built (sound-test (tablesOf m running place) (built-sound m g running place)) (registers-ok running place (length (m .frames)) (b .0) (c .1))
-          (every-all 256 (variableOk (variablesOf vs)) (λ x h. variable-ok vs x h (values-at vs 256 (c .0) x h)));
+          (every-all 256 (variableOk (variablesOf vs)) (λ x h. variable-ok vs x h (vars-at vs 256 (c .0) x h) (typed-at vs 256 f x h)));
       memory = view-back m g running place;
       runs = flag-back running;
       next = refl;

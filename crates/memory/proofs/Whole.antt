@@ -11,8 +11,8 @@ use lib.Dec.{ltb, leb, eqb}
 use borrow.Author.Tests.{lt-ltb, le-leb, eq-eqb}
 use Rattle.value.specs.Value.{Value, tag, size, isScalar, isBadChar}
 use Rattle.memory.specs.Memory.{Frame}
-use Rattle.memory.specs.Stored.{isValue, greatestOf, storedValue}
-use Rattle.memory.specs.Sound.{rising, goodVar, goodBack, goodBacks, soundMemory, goodValue, goodValues, soundMachine}
+use Rattle.memory.specs.Stored.{greatestOf, storedValue}
+use Rattle.memory.specs.Sound.{rising, goodVar, goodBack, goodBacks, soundMemory, goodValue, goodVars, soundMachine, inKind, typed}
 use Rattle.memory.specs.Tables.{Tables, State, every, memoryOk, storedOk, variableOk, registersOk, soundOf}
 use Rattle.memory.specs.View.{tab, variableIn, backIn, frameIn, view, runningIn, variablesIn}
 use Rattle.memory.proofs.Every.{by-test, every-at}
@@ -58,13 +58,13 @@ backs-tab zero F h = refl
 backs-tab (suc n) F h = backs-append (tab n F) (F n ∷ []) (backs-tab n F (λ i k. h i (omega arith))) (and-true (h n (omega arith)) refl)
 
 var-good : (v : ℕ) → v ≤ 256 → goodVar (variableIn v) ≡ true
-unfolding variableIn
+unfolding variableIn goodVar
 var-good zero h = refl
 var-good (suc x) h = lt-ltb x 256 (omega arith)
 
 back-good : (p v : ℕ) → p ≤ 4096 → v ≤ 256 → goodBack (backIn p v) ≡ true
 unfolding goodBack
-back-good p v h k = and-true (le-leb p 4096 h) (var-good v k)
+back-good p v h k = and-true (var-good v k) (le-leb p 4096 h)
 
 -- ---- the memory
 
@@ -97,9 +97,8 @@ unfolding soundMemory
 memory-seen t so =
     let d = depth-is t so in
     let o = so .some in
-    and-true (ap (λ k. leb 1 k) d ∙ le-leb 1 (t .registers .depth) o)
-    (and-true (ap (λ k. leb k 64) d ∙ le-leb (t .registers .depth) 64 (so .ready .deep))
-    (and-true (ap (λ (f : Frame). eqb (f .id) 0) (frame-is t so 0 o) ∙ eq-eqb (getD (t .frames) 0 0) 0 (so .root))
+    and-true (and-true (ap (λ k. leb 1 k) d ∙ le-leb 1 (t .registers .depth) o) (ap (λ k. leb k 64) d ∙ le-leb (t .registers .depth) 64 (so .ready .deep)))
+    ((and-true (ap (λ (f : Frame). eqb (f .id) 0) (frame-is t so 0 o) ∙ eq-eqb (getD (t .frames) 0 0) 0 (so .root))
     (and-true (ids t so)
     (and-true (ap (λ k. leb k 4294967295) (counter t so) ∙ le-leb (t .registers .counter) 4294967295 (so .counted))
     (and-true (ap (λ k. leb k 512) (count-live t so) ∙ le-leb _ 512 (so .few))
@@ -112,31 +111,37 @@ not-not : (b : Bool) → b ≡ true → not (true && not b) ≡ true
 not-not true e = refl
 not-not false e = e
 
-stored-good : (t b : ℕ) → storedOk t b ≡ true → goodValue (storedValue t b) ≡ true
-unfolding storedOk storedValue goodValue isValue isBadChar greatestOf tag size
-stored-good zero b e = refl
-stored-good (suc zero) b e = e
-stored-good (suc (suc zero)) b e = e
-stored-good (suc (suc (suc zero))) b e = e
-stored-good (suc (suc (suc (suc zero)))) b e = e
-stored-good (suc (suc (suc (suc (suc zero))))) b e = e
-stored-good (suc (suc (suc (suc (suc (suc zero)))))) b e = e
-stored-good (suc (suc (suc (suc (suc (suc (suc zero))))))) b e = e
-stored-good (suc (suc (suc (suc (suc (suc (suc (suc zero)))))))) b e = e
-stored-good (suc (suc (suc (suc (suc (suc (suc (suc (suc zero))))))))) b e = e
-stored-good (suc (suc (suc (suc (suc (suc (suc (suc (suc (suc zero)))))))))) b e = e
-stored-good (suc (suc (suc (suc (suc (suc (suc (suc (suc (suc (suc zero))))))))))) b e = e
-stored-good (suc (suc (suc (suc (suc (suc (suc (suc (suc (suc (suc (suc zero)))))))))))) b e = let x = both-true (leb b 4294967295) (isScalar b) e in and-true (x .0) (not-not (isScalar b) (x .1))
-stored-good (suc (suc (suc (suc (suc (suc (suc (suc (suc (suc (suc (suc (suc zero))))))))))))) b e = e
-stored-good (suc (suc (suc (suc (suc (suc (suc (suc (suc (suc (suc (suc (suc (suc zero)))))))))))))) b e = e
-stored-good (suc (suc (suc (suc (suc (suc (suc (suc (suc (suc (suc (suc (suc (suc (suc t))))))))))))))) b e = refl
+-- a stored value is a good one, and has the bits of its kind
+stored-good : (t b : ℕ) → storedOk t b ≡ true → (goodValue (storedValue t b) ≡ true) × (inKind (storedValue t b) ≡ true)
+unfolding storedOk storedValue goodValue inKind isBadChar greatestOf tag size
+stored-good zero b e = (refl, refl)
+stored-good (suc zero) b e = (refl, both-true (leb b 1) true e .0)
+stored-good (suc (suc zero)) b e = (refl, both-true (leb b 255) true e .0)
+stored-good (suc (suc (suc zero))) b e = (refl, both-true (leb b 65535) true e .0)
+stored-good (suc (suc (suc (suc zero)))) b e = (refl, both-true (leb b 4294967295) true e .0)
+stored-good (suc (suc (suc (suc (suc zero))))) b e = (refl, both-true (leb b 18446744073709551615) true e .0)
+stored-good (suc (suc (suc (suc (suc (suc zero)))))) b e = (refl, both-true (leb b 255) true e .0)
+stored-good (suc (suc (suc (suc (suc (suc (suc zero))))))) b e = (refl, both-true (leb b 65535) true e .0)
+stored-good (suc (suc (suc (suc (suc (suc (suc (suc zero)))))))) b e = (refl, both-true (leb b 4294967295) true e .0)
+stored-good (suc (suc (suc (suc (suc (suc (suc (suc (suc zero))))))))) b e = (refl, both-true (leb b 18446744073709551615) true e .0)
+stored-good (suc (suc (suc (suc (suc (suc (suc (suc (suc (suc zero)))))))))) b e = (refl, both-true (leb b 4294967295) true e .0)
+stored-good (suc (suc (suc (suc (suc (suc (suc (suc (suc (suc (suc zero))))))))))) b e = (refl, both-true (leb b 18446744073709551615) true e .0)
+stored-good (suc (suc (suc (suc (suc (suc (suc (suc (suc (suc (suc (suc zero)))))))))))) b e = let x = both-true (leb b 4294967295) (isScalar b) e in (not-not (isScalar b) (x .1), x .0)
+stored-good (suc (suc (suc (suc (suc (suc (suc (suc (suc (suc (suc (suc (suc zero))))))))))))) b e = (refl, both-true (leb b 4294967295) true e .0)
+stored-good (suc (suc (suc (suc (suc (suc (suc (suc (suc (suc (suc (suc (suc (suc zero)))))))))))))) b e = (refl, both-true (leb b 18446744073709551615) true e .0)
+stored-good (suc (suc (suc (suc (suc (suc (suc (suc (suc (suc (suc (suc (suc (suc (suc t))))))))))))))) b e = (refl, refl)
 
-values-good : (vs : ℕ → Option Value) (n : ℕ) → ((x : ℕ) → x < n → goodValue (vs x) ≡ true) → goodValues vs n ≡ true
-unfolding goodValues
-values-good vs zero h = refl
-values-good vs (suc n) h = and-true (values-good vs n (λ x k. h x (omega arith))) (h n (omega arith))
+vars-good : (vs : ℕ → Option Value) (n : ℕ) → ((x : ℕ) → x < n → goodValue (vs x) ≡ true) → goodVars vs n ≡ true
+unfolding goodVars
+vars-good vs zero h = refl
+vars-good vs (suc n) h = and-true (h n (omega arith)) (vars-good vs n (λ x k. h x (omega arith)))
 
-variable-good : (vs : List ℕ) (x : ℕ) → variableOk vs x ≡ true → goodValue (variablesIn vs x) ≡ true
+vars-typed : (vs : ℕ → Option Value) (n : ℕ) → ((x : ℕ) → x < n → inKind (vs x) ≡ true) → typed vs n ≡ true
+unfolding typed
+vars-typed vs zero h = refl
+vars-typed vs (suc n) h = and-true (h n (omega arith)) (vars-typed vs n (λ x k. h x (omega arith)))
+
+variable-good : (vs : List ℕ) (x : ℕ) → variableOk vs x ≡ true → (goodValue (variablesIn vs x) ≡ true) × (inKind (variablesIn vs x) ≡ true)
 unfolding variableOk variablesIn
 variable-good vs x e = stored-good _ _ e
 
@@ -152,9 +157,10 @@ idle-good r next depth e =
           rw (t, c .1)),
     )
 
--- A sound state's view meets the list.
+-- A sound state's view meets the list, and its values have the bits of their kinds.
 pub sound-seen : (s : State) → soundOf s ≡ true
-    → soundMachine (view (s .memory)) (runningIn (s .memory .registers .running)) (s .memory .registers .next) (variablesIn (s .variables)) ≡ true
+    → (soundMachine (view (s .memory)) (runningIn (s .memory .registers .running)) (s .memory .registers .next) (variablesIn (s .variables)) ≡ true)
+    × (typed (variablesIn (s .variables)) 256 ≡ true)
 unfolding soundOf soundMachine
 sound-seen s e =
     let t = s .memory in
@@ -163,7 +169,11 @@ sound-seen s e =
     let c = both-true (registersOk (t .registers .running) (t .registers .next) (t .registers .depth)) (every 256 (variableOk (s .variables))) (b .1) in
     let so = sound-of t (a .0) in
     let i = idle-good _ _ _ (c .0) in
-    and-true (memory-seen t so)
-    (and-true (i .0)
-    (and-true (values-good (variablesIn (s .variables)) 256 (λ x h. variable-good (s .variables) x (every-at 256 (variableOk (s .variables)) (c .1) x h)))
-    (ap (λ k. runningIn (t .registers .running) || eqb k 1) (depth-is t so) ∙ i .1)))
+    let v : (x : ℕ) → x < 256 → (goodValue (variablesIn (s .variables) x) ≡ true) × (inKind (variablesIn (s .variables) x) ≡ true) =
+    λ x h. variable-good (s .variables) x (every-at 256 (variableOk (s .variables)) (c .1) x h) in (
+      and-true (memory-seen t so)
+          (and-true (i .0)
+          (and-true (vars-good (variablesIn (s .variables)) 256 (λ x h. v x h .0))
+          (ap (λ k. runningIn (t .registers .running) || eqb k 1) (depth-is t so) ∙ i .1))),
+      vars-typed (variablesIn (s .variables)) 256 (λ x h. v x h .1),
+    )

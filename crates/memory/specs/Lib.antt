@@ -1,3 +1,4 @@
+pub mod Cases
 pub mod Live
 pub mod Memory
 pub mod Sound

@@ -16,10 +16,6 @@ kinds = bool ∷ u8 ∷ u16 ∷ u32 ∷ u64 ∷ i8 ∷ i16 ∷ i32 ∷ i64 ∷ f
 abbrev pub greatest : Kind → ℕ
 greatest k = pick (same k bool) 1 (2 ^ width k - 1)
 
--- bits of the value's kind, and "stored Chars scalar"
-unfoldable pub isValue : Value → Bool
-isValue v = leb (v .bits) (greatest (v .kind)) && not (isBadChar v)
-
 abbrev pub kindAt : ℕ → Option Kind
 kindAt zero = none
 kindAt (suc t) = getElem? kinds t
