@@ -1,6 +1,6 @@
 """The program image of document 01, read and written: bytes in, a program or (number, place) out.
 
-Written from document 01 alone (sections "The program image" and "Refusal numbers"), plain rather than fast.
+Written from document 01 (sections "The program image" and "Refusal numbers") and the project's readings of it, plain rather than fast.
 """
 
 OUT_OF_BYTES, MALFORMED, UNKNOWN, OVER_LIMIT, BEYOND_COUNT, LEFT_OVER = 1, 2, 3, 4, 5, 6

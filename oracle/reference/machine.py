@@ -1,6 +1,6 @@
 """The machine of document 01 as plain data: start, step, run, host calls, soundness, the live list.
 
-Written from document 01 (sections "Refusal numbers" to "The live list"), in its order of checks. A value is (tag, bits).
+Written from document 01 (sections "Refusal numbers" to "The live list") and the project's readings of it, in its order of checks. A value is (tag, bits).
 """
 
 import struct
