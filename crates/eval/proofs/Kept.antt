@@ -1,9 +1,9 @@
 -- What a machine holds, and each operation of its memory keeps, is kept by every ask of an accepted program. By cases of the ask and of the
 -- instruction, each a chain of answers that keep it.
-use Prim.Native.Nat.{ℕ, zero, suc, _+_, _≤_, _<_}
+use Prim.Native.Nat.{ℕ, zero, suc, _+_, _^_, _≤_, _<_}
 use native.Mathlib.Nat.{le-refl, le-trans}
 use native.Mathlib.Omega.{arith}
-use mathlib.Core.Bool.{Bool, true, false, not}
+use mathlib.Core.Bool.{Bool, true, false, not, _&&_, _||_}
 use mathlib.Core.Path.{_≡_, refl, subst}
 use mathlib.Core.List.{List, [], _∷_}
 use mathlib.Core.Option.{Option, none, some}
@@ -12,15 +12,17 @@ use lib.Dec.{T, leb, eqb, ltb→lt, leb→le, lt→ltb, le→leb}
 use mir.Facts.{and-yes, yes-and}
 use Rattle.value.specs.Refusal.{noInstruction}
 use Rattle.value.specs.Answer.{Answer, ok, refused, found, _>>=_, pick}
-use Rattle.value.specs.Value.{Value, value, pointer, size, bytesOf, isBadChar}
+use Rattle.value.specs.Value.{Value, value, Kind, bool, u8, u16, u32, u64, i8, i16, i32, i64, f32, f64, char, asn, pointer, tag, same, kindOf, size, isScalar, isBadChar, bytesOf}
+use Rattle.value.specs.Tags.{holds}
 use Rattle.image.specs.Program.{Program, Operand, variable, literal, Slot, Declared, Function, functionAt, flatten, code, placeOf, Instruction, Jump, Switch, Assign, ConstantAddress, Call, Return, IntCmp′, FloatCmp′, Add, Sub, Mul, Div, Mod, FDiv, Not, Negate, Offset, Initialize, Write, Read, Copy, Drop}
 use Rattle.memory.specs.Memory.{Back}
 use Rattle.memory.specs.Live.{Live}
 use Rattle.eval.specs.Machine.{Memories, Vars, unset, setTo, Machine, Stepped, went, ended, Ran, valueOf, setFrom, setArguments, setValues, choose, asVariable, toOf, valueIf, setReturned, setStarted, allGood, makeSlots, sets₁, sets₂, leave, execute, step, after, runFrom, run, stepOnce, hostAllocate, hostWrite, start}
-use Rattle.eval.specs.Sound.{goodVar, goodBack, goodValue}
-use Rattle.eval.specs.Accepted.{all, goodOperand, goodOptional, goodTo, goodInstruction, accepted, acceptedAsk}
+use Rattle.memory.specs.Sound.{goodVar, goodBack}
+use Rattle.eval.specs.Sound.{all, areBytes}
+use Rattle.eval.specs.Accepted.{given, goodOperand, goodOptional, goodTo, goodInstruction, accepted, acceptedAsk}
 use Rattle.eval.specs.Asks.{Ask, toAllocate, toWrite, toRead, toStart, toStep, toRun, toList, Reply, changes, shows, steps, goes, lays, ask}
-use Rattle.eval.proofs.Values.{Keeps, kept, no-answer, keeps-need, keeps-then, keeps-after, Good, pointer-good, arithmetic-good, divided-good, negated-good, notted-good, compared-ints-good, compared-floats-good, read-good}
+use Rattle.eval.proofs.Values.{Keeps, kept, no-answer, keeps-need, keeps-then, keeps-after, Good, pointer-good, arithmetic-good, divided-good, stored-bytes, Bytes, negated-good, notted-good, compared-ints-good, compared-floats-good, read-good}
 
 -- ---- programs
 
@@ -44,46 +46,73 @@ instruction-at f (x ∷ is) (suc k) i t e = let r = instruction-at f is k i (and
 
 -- ---- variables
 
+abbrev pub GoodIf : Option Value → Type 0
+GoodIf none = Unit {0}
+GoodIf (some v) = Good v
+
 abbrev pub GoodVars : Vars → Type 0
-GoodVars vs = (x : ℕ) → x < 256 → T (goodValue (vs x))
+GoodVars vs = (x : ℕ) → x < 256 → GoodIf (vs x)
 
 set-good : (vs : Vars) (x : ℕ) (v : Value) → GoodVars vs → Good v → GoodVars (setTo vs x v)
-unfolding goodValue
 set-good vs x v g h y l = go (eqb y x)
   where
-    go : (b : Bool) → T (goodValue (pick b (some v) (vs y)))
+    go : (b : Bool) → GoodIf (pick b (some v) (vs y))
     go true = h
     go false = g y l
 
-found-good : (n : ℕ) (o : Option Value) → T (goodValue o) → Keeps Good (found n o)
-unfolding goodValue found
+found-good : (n : ℕ) (o : Option Value) → GoodIf o → Keeps Good (found n o)
+unfolding found
 found-good n none t = no-answer
 found-good n (some v) t = kept t
 
-abbrev GoodIf : Option Value → Type 0
-GoodIf v = T (goodValue v)
-
 returned-good : (vs : Vars) → GoodVars vs → (to : Option ℕ) (v : Option Value) → GoodIf v → Keeps GoodVars (setReturned vs to v)
-unfolding setReturned goodValue
+unfolding setReturned
 returned-good vs g to none t = kept g
 returned-good vs g none (some v) t = no-answer
 returned-good vs g (some x) (some v) t = kept (set-good vs x v g t)
 
-values-good : (vs : Vars) → GoodVars vs → (xs : List ℕ) (gs : List Value) → T (allGood gs) → GoodVars (setValues vs xs gs)
-unfolding setValues allGood
-values-good vs g [] gs t = g
-values-good vs g (x ∷ xs) [] t = g
-values-good vs g (x ∷ xs) (v ∷ gs) t =
-    let u = and-yes (not (isBadChar v)) (allGood gs) t in
-    values-good (setTo vs x v) (set-good vs x v g (u .0)) xs gs (u .1)
+-- a value that an entry takes, and that is no bad Char, is one
+given-good : (v : Value) → T (given v) → T (not (isBadChar v)) → Good v
+unfolding given isBadChar holds tag
+given-good v t u = go (v .kind) t u
+  where
+    scalar : (b : Bool) → T (not (not b)) → T b
+    scalar true x = tt
+    scalar false x = x
 
-started-good : (vs : Vars) → GoodVars vs → (F : Function) (flagged : Bool) (gs : List Value) → T (allGood gs) → GoodVars (setStarted vs F flagged gs)
-unfolding setStarted allGood
-started-good vs g F false gs t = values-good vs g (F .parameters) gs t
-started-good vs g F true [] t = g
-started-good vs g F true (v ∷ gs) t =
+    go : (k : Kind) → T (same k char || holds k (v .bits)) → T (not (same k char && not (isScalar (v .bits)))) → T (holds k (v .bits))
+    go bool t u = t
+    go u8 t u = t
+    go u16 t u = t
+    go u32 t u = t
+    go u64 t u = t
+    go i8 t u = t
+    go i16 t u = t
+    go i32 t u = t
+    go i64 t u = t
+    go f32 t u = t
+    go f64 t u = t
+    go asn t u = t
+    go pointer t u = t
+    go char t u = scalar (isScalar (v .bits)) u
+
+values-good : (vs : Vars) → GoodVars vs → (xs : List ℕ) (gs : List Value) → T (all given gs) → T (allGood gs) → GoodVars (setValues vs xs gs)
+unfolding setValues allGood all
+values-good vs g [] gs a t = g
+values-good vs g (x ∷ xs) [] a t = g
+values-good vs g (x ∷ xs) (v ∷ gs) a t =
+    let b = and-yes (given v) (all given gs) a in
     let u = and-yes (not (isBadChar v)) (allGood gs) t in
-    values-good (setTo vs (F .returnVar) v) (set-good vs (F .returnVar) v g (u .0)) (F .parameters) gs (u .1)
+    values-good (setTo vs x v) (set-good vs x v g (given-good v (b .0) (u .0))) xs gs (b .1) (u .1)
+
+started-good : (vs : Vars) → GoodVars vs → (F : Function) (flagged : Bool) (gs : List Value) → T (all given gs) → T (allGood gs) → GoodVars (setStarted vs F flagged gs)
+unfolding setStarted allGood all
+started-good vs g F false gs a t = values-good vs g (F .parameters) gs a t
+started-good vs g F true [] a t = g
+started-good vs g F true (v ∷ gs) a t =
+    let b = and-yes (given v) (all given gs) a in
+    let u = and-yes (not (isBadChar v)) (allGood gs) t in
+    values-good (setTo vs (F .returnVar) v) (set-good vs (F .returnVar) v g (given-good v (b .0) (u .0))) (F .parameters) gs (b .1) (u .1)
 
 module _ (n : ℕ) (few : n ≤ 256) where
   value-good : (vs : Vars) → GoodVars vs → (o : Operand) → T (goodOperand n o) → Keeps Good (valueOf vs o)
@@ -105,12 +134,12 @@ module _ (n : ℕ) (few : n ≤ 256) where
       keeps-then Good GoodVars (value-good vs g o (u .0)) (λ v h. arguments-good (setTo vs x v) (set-good vs x v g h) xs os (u .1))
 
   value-if-good : (vs : Vars) → GoodVars vs → (o : Option Operand) → T (goodOptional n o) → Keeps GoodIf (valueIf vs o)
-  unfolding goodOptional valueIf goodValue
+  unfolding goodOptional valueIf
   value-if-good vs g none t = kept tt
   value-if-good vs g (some o) t = keeps-then Good GoodIf (value-good vs g o t) (λ v h. kept h)
 
   to-good : (to : Option Declared) → T (goodTo n to) → T (goodVar (toOf to))
-  unfolding goodTo goodVar toOf
+  unfolding goodTo toOf
   to-good none t = tt
   to-good (some d) t = lt→ltb (d .to) 256 (le-trans (ltb→lt (d .to) n t) few)
 
@@ -127,7 +156,9 @@ pub record Kept {M : Type 0} (mem : Memories M) (I : Bool → M → Type 0) : Ty
   pub allocate : {r : Bool} {m : M} → I r m → (n : ℕ) → Keeps (I r) (mem .allocate m n)
   pub address : {r : Bool} {m : M} → I r m → (k : ℕ) → Keeps (I r) (mem .address m k)
   pub offset : {r : Bool} {m : M} → I r m → (p d : ℕ) → Keeps (I r) (mem .offset m p d)
-  pub write : {r : Bool} {m : M} → I r m → (p : ℕ) (bs : List ℕ) → Keeps (I r) (mem .write m p bs)
+  pub given : {r : Bool} {m : M} → I r m → mem .given m < 2 ^ 64
+  pub read : {r : Bool} {m : M} → I r m → (constants : List (List ℕ)) → T (all areBytes constants) → (p n : ℕ) → Keeps (Bytes n) (mem .read constants m p n)
+  pub write : {r : Bool} {m : M} → I r m → (p : ℕ) (bs : List ℕ) → T (areBytes bs) → Keeps (I r) (mem .write m p bs)
   pub push : {m : M} → I true m → (back : Back) → T (goodBack back) → Keeps (I true) (mem .push m back)
   pub pop : {m : M} → I true m → Popping I m (mem .pop m)
 
@@ -150,7 +181,7 @@ module _ {M : Type 0} {mem : Memories M} {I : Bool → M → Type 0} (K : Kept m
   unfolding makeSlots
   slots-held r [] vs i g = kept (record { memory = i; vars = g })
   slots-held r (x ∷ xs) {m} vs i g =
-      keeps-then (I r) (λ y. HeldSlots y r) (K .allocate i (x .size)) (λ m′ i′. slots-held r xs _ i′ (set-good vs (x .var) _ g (pointer-good (mem .given m))))
+      keeps-then (I r) (λ y. HeldSlots y r) (K .allocate i (x .size)) (λ m′ i′. slots-held r xs _ i′ (set-good vs (x .var) _ g (pointer-good (mem .given m) (K .given i))))
 
   module _ (P : Program) (good : T (accepted P)) where
     few : P .variables ≤ 256
@@ -161,9 +192,9 @@ module _ {M : Type 0} {mem : Memories M} {I : Bool → M → Type 0} (K : Kept m
     unfolding accepted
     short = leb→le (length (code P)) 4096 (and-yes (leb (length (code P)) 4096) _ (and-yes (leb (P .variables) 256) _ good .1) .0)
 
-    each-good : T (all (goodInstruction (P .variables)) (code P))
+    rest-good : T (all areBytes (P .constants)) × T (all (goodInstruction (P .variables)) (code P))
     unfolding accepted
-    each-good = and-yes (leb (length (code P)) 4096) _ (and-yes (leb (P .variables) 256) _ good .1) .1
+    rest-good = and-yes (all areBytes (P .constants)) _ (and-yes (leb (length (code P)) 4096) _ (and-yes (leb (P .variables) 256) _ good .1) .1)
 
     label-fits : (label : ℕ) → placeOf P label ≤ 4096
     label-fits label = le-trans (flatten-front label (P .blocks)) short
@@ -180,7 +211,7 @@ module _ {M : Type 0} {mem : Memories M} {I : Bool → M → Type 0} (K : Kept m
       sets-held to v h = onward-held _ i (set-good (s .vars) to v g h)
 
       points-held : (to : ℕ) {m : M} → I true m → HeldStep (went (record { memory = m; running = true; place = s .place + 1; vars = setTo (s .vars) to (value pointer (mem .given (s .memory))) }))
-      points-held to j = onward-held _ j (set-good (s .vars) to _ g (pointer-good (mem .given (s .memory))))
+      points-held to j = onward-held _ j (set-good (s .vars) to _ g (pointer-good (mem .given (s .memory)) (K .given i)))
 
       operand : (o : Operand) → T (goodOperand (P .variables) o) → Keeps Good (valueOf (s .vars) o)
       operand o t = value-good (P .variables) few (s .vars) g o t
@@ -191,12 +222,12 @@ module _ {M : Type 0} {mem : Memories M} {I : Bool → M → Type 0} (K : Kept m
       sets₂-held : (to : ℕ) (f : Value → Value → Answer Value) (x y : Operand) → ((v w : Value) → Keeps Good (f v w)) → Keeps HeldStep (sets₂ mem s to f x y)
       sets₂-held to f x y k = keeps-after HeldStep _ (λ a. keeps-after HeldStep _ (λ b. keeps-then Good HeldStep (k a b) (λ v h. kept (sets-held to v h))))
 
-      leave-held : (v : Option Value) → T (goodValue v) → {a : Option (Back × M)} → Popping I (s .memory) a → Keeps HeldStep (leave mem s v a)
+      leave-held : (v : Option Value) → GoodIf v → {a : Option (Back × M)} → Popping I (s .memory) a → Keeps HeldStep (leave mem s v a)
       unfolding leave goodBack
       leave-held v t (at-root j) = let stays : s .place ≤ 4096 = omega arith in kept (held-ended (record { memory = j; place = stays; vars = g }))
       leave-held v t (back-to {back} b j) =
           keeps-then GoodVars HeldStep (returned-good (s .vars) g (back .var) v t)
-          (λ vs h. kept (held-went tt (record { memory = j; place = leb→le (back .place) 4096 (and-yes (goodVar (back .var)) (leb (back .place) 4096) b .1); vars = h })))
+          (λ vs h. kept (held-went tt (record { memory = j; place = leb→le (back .place) 4096 (and-yes (leb (back .place) 4096) (goodVar (back .var)) b .0); vars = h })))
 
       execute-held : (x : Instruction) → T (goodInstruction (P .variables) x) → Keeps HeldStep (execute mem P s x)
       unfolding execute goodInstruction goodBack
@@ -210,7 +241,7 @@ module _ {M : Type 0} {mem : Memories M} {I : Bool → M → Type 0} (K : Kept m
           let t₃ = and-yes (goodOptional (P .variables) context) _ (t₂ .1) in
           let F : Function = functionAt P f in
           keeps-then (I true) HeldStep
-          (K .push i _ (yes-and (goodVar (toOf to)) (leb (s .place + 1) 4096) (to-good (P .variables) few to (t₁ .0)) (le→leb (s .place + 1) 4096 (omega arith))))
+          (K .push i _ (yes-and (leb (s .place + 1) 4096) (goodVar (toOf to)) (le→leb (s .place + 1) 4096 (omega arith)) (to-good (P .variables) few to (t₁ .0))))
           (λ m j. keeps-then (λ y. HeldSlots y true) HeldStep (slots-held true (F .slots) (s .vars) j g)
           (λ x₁ h₁. keeps-then GoodVars HeldStep (set-from-good (P .variables) few (x₁ .1) (h₁ .vars) (F .returnVar) (asVariable returnPointer) (t₂ .0))
           (λ vs₂ g₂. keeps-then GoodVars HeldStep (set-from-good (P .variables) few vs₂ g₂ (F .contextVar) context (t₃ .0))
@@ -229,11 +260,12 @@ module _ {M : Type 0} {mem : Memories M} {I : Bool → M → Type 0} (K : Kept m
       execute-held (Negate to x) t = sets₁-held to _ x (λ v h. negated-good v) t
       execute-held (Offset to x d) t = keeps-after HeldStep _ (λ p. keeps-then (I true) HeldStep (K .offset i p d) (λ m j. kept (points-held to j)))
       execute-held (Initialize to n bytes) t = keeps-need HeldStep _ _ (λ u. keeps-then (I true) HeldStep (K .allocate i n)
-          (λ m j. keeps-then (I true) HeldStep (K .write j _ bytes) (λ m′ j′. kept (points-held to j′))))
-      execute-held (Write x y) t = keeps-after HeldStep _ (λ p. keeps-after HeldStep _ (λ v. keeps-then (I true) HeldStep (K .write i p (bytesOf v)) (λ m j. kept (onward-held (s .vars) j g))))
-      execute-held (Read to x type) t = keeps-after HeldStep _ (λ p. keeps-after HeldStep _ (λ bytes. keeps-then Good HeldStep (read-good type bytes) (λ v h. kept (sets-held to v h))))
-      execute-held (Copy x y n) t = keeps-after HeldStep _ (λ to. keeps-after HeldStep _ (λ from. keeps-after HeldStep _ (λ bytes.
-          keeps-then (I true) HeldStep (K .write i to bytes) (λ m j. kept (onward-held (s .vars) j g)))))
+          (λ m j. keeps-then (I true) HeldStep (K .write j _ bytes t) (λ m′ j′. kept (points-held to j′))))
+      execute-held (Write x y) t = keeps-after HeldStep _ (λ p. keeps-after HeldStep _ (λ v. keeps-then (I true) HeldStep (K .write i p (bytesOf v) (stored-bytes v)) (λ m j. kept (onward-held (s .vars) j g))))
+      execute-held (Read to x type) t = keeps-after HeldStep _ (λ p. keeps-then (Bytes (size (kindOf type))) HeldStep (K .read i (P .constants) (rest-good .0) p (size (kindOf type)))
+          (λ bytes b. keeps-then Good HeldStep (read-good type bytes b) (λ v h. kept (sets-held to v h))))
+      execute-held (Copy x y n) t = keeps-after HeldStep _ (λ to. keeps-after HeldStep _ (λ from. keeps-then (Bytes n) HeldStep (K .read i (P .constants) (rest-good .0) from n) (λ bytes b.
+          keeps-then (I true) HeldStep (K .write i to bytes (b .1)) (λ m j. kept (onward-held (s .vars) j g)))))
       execute-held (Drop x) t = kept (onward-held (s .vars) i g)
 
     pub step-held : {s : Machine M} → T (s .running) → Held s → Keeps HeldStep (step mem P s)
@@ -243,7 +275,7 @@ module _ {M : Type 0} {mem : Memories M} {I : Bool → M → Type 0} (K : Kept m
         go : (x : Option Instruction) → getElem? (code P) (s .place) ≡ x → Keeps HeldStep (found noInstruction x >>= λ y. execute mem P s y)
         go none e = no-answer
         go (some x) e =
-            let there = instruction-at (goodInstruction (P .variables)) (code P) (s .place) x each-good e in
+            let there = instruction-at (goodInstruction (P .variables)) (code P) (s .place) x (rest-good .1) e in
             execute-held s (runs (s .running) r (h .memory)) (le-trans (there .0) short) (h .vars) x (there .1)
           where
             runs : (b : Bool) → T b → I b (s .memory) → I true (s .memory)
@@ -268,14 +300,15 @@ module _ {M : Type 0} {mem : Memories M} {I : Bool → M → Type 0} (K : Kept m
     run-from-held zero done r h = record { machine = h }
     run-from-held (suc left) done r h = after-held h done (step-held P good r h) _ (λ s′ r′ h′. run-from-held left (done + 1) r′ h′)
 
-    start-held : (f : ℕ) (context : Value) (gs : List Value) {s : Machine M} → Held s → Keeps Held (start mem P f context gs s)
-    unfolding start allGood goodValue
-    start-held f context gs {s} h =
+    start-held : (f : ℕ) (context : Value) (gs : List Value) → T (all given (context ∷ gs)) → {s : Machine M} → Held s → Keeps Held (start mem P f context gs s)
+    unfolding start allGood all
+    start-held f context gs taken {s} h =
+        let took = and-yes (given context) (all given gs) taken in
         keeps-need Held _ _ (λ t. keeps-need Held _ _ (λ u. keeps-need Held _ _ (λ v. keeps-need Held _ _ (λ w.
         let ok-context = and-yes (not (isBadChar context)) (allGood gs) w in
         keeps-then (λ y. HeldSlots y true) Held
         (slots-held true (functionAt P f .slots) _ (K .started (idle (s .running) t (h .memory)))
-        (started-good _ (set-good unset (functionAt P f .contextVar) context none-good (ok-context .0)) (functionAt P f) (functionAt P f .returnPointer) gs (ok-context .1)))
+        (started-good _ (set-good unset (functionAt P f .contextVar) context none-good (given-good context (took .0) (ok-context .0))) (functionAt P f) (functionAt P f .returnPointer) gs (took .1) (ok-context .1)))
         (λ x h′. kept (record { memory = h′ .memory; place = label-fits P good (functionAt P f .entry); vars = h′ .vars }))))))
       where
         idle : (b : Bool) → T (not b) → I b (s .memory) → I false (s .memory)
@@ -316,9 +349,9 @@ module _ {M : Type 0} {mem : Memories M} {I : Bool → M → Type 0} (K : Kept m
   ask-held {s} h (toAllocate n) t =
       changes-held h _ (keeps-then (I (s .running)) Held (K .allocate (h .memory) n) (λ m j. kept (record { memory = j; place = h .place; vars = h .vars })))
   ask-held {s} h (toWrite p bs) t =
-      changes-held h _ (keeps-then (I (s .running)) Held (K .write (h .memory) p bs) (λ m j. kept (record { memory = j; place = h .place; vars = h .vars })))
+      changes-held h _ (keeps-then (I (s .running)) Held (K .write (h .memory) p bs t) (λ m j. kept (record { memory = j; place = h .place; vars = h .vars })))
   ask-held h (toRead P p n) t = shows-held h _
-  ask-held h (toStart P f context gs) t = changes-held h _ (start-held P t f context gs h)
+  ask-held h (toStart P f context gs) t = changes-held h _ (let u = and-yes (accepted P) (all given (context ∷ gs)) t in start-held P (u .0) f context gs (u .1) h)
   ask-held {s} h (toStep P) t = steps-held h (keeps-need HeldStep (s .running) _ (λ r. step-held P t r h))
   ask-held {s} h (toRun P budget) t = goes-held h (keeps-need HeldRun (s .running) _ (λ r. kept (run-from-held P t budget 0 r h)))
   ask-held h (toList room) t = lays-held h _

@@ -14,3 +14,5 @@ pub mod Demand
 pub mod Sequence
 pub mod Numbers
 pub mod Promises
+pub mod Decoded
+pub mod Laws

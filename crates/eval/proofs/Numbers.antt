@@ -23,8 +23,8 @@ use Rattle.eval.specs.Believed.{believed}
 use Rattle.eval.specs.Entries.{enter}
 use Rattle.eval.specs.Asks.{Ask, toAllocate, toWrite, toRead, toStart, toStep, toRun, toList, Reply, ran, refusal, turn, changes, shows, steps, goes, lays, ask}
 use Rattle.eval.specs.History.{among}
-use Rattle.eval.specs.Accepted.{all, accepted}
-use Rattle.eval.specs.Sound.{sound}
+use Rattle.eval.specs.Accepted.{accepted}
+use Rattle.eval.specs.Sound.{all, sound}
 use Rattle.eval.specs.Promises.{room, access, instructionNumbers, stepNumbers, entryNumbers, EntriesGive, RunsStopWith}
 use Rattle.eval.proofs.Agree.{need-ok, ok-inj}
 use Rattle.eval.proofs.Initialize.{granted}

@@ -8,8 +8,11 @@ use Rattle.memory.specs.Memory.{sum, liveCount, liveBytes, allocate, access, wr
 use Rattle.eval.specs.Machine as M
 use Rattle.eval.specs.Believed.{believed}
 use Rattle.eval.specs.Recalled.{recalled}
-use Rattle.eval.specs.Sound.{rising, goodVar, goodBack, goodBacks, goodValue, goodVars, soundMemory, sound}
-use Rattle.eval.specs.Accepted.{all, goodOperand, goodOptional, goodTo, goodInstruction, accepted, acceptedAsk}
+use Rattle.memory.specs.Stored.{isValue}
+use Rattle.memory.specs.Sound.{soundMachine, rising, goodBack, goodBacks, goodValue, goodValues, soundMemory}
+use Rattle.eval.specs.Sound.{all, bytesIn, sound}
+use Rattle.value.specs.Tags.{holds}
+use Rattle.eval.specs.Accepted.{given, goodOperand, goodOptional, goodTo, goodInstruction, accepted, acceptedAsk}
 use Rattle.eval.specs.Asks.{changes, shows, steps, goes, lays, ask, replies}
 use Rattle.eval.specs.Entries.{enter, answers}
 use Rattle.eval.specs.Demand.{Accepted}
@@ -17,11 +20,11 @@ use Rattle.eval.specs.Sequence.{asked, answered}
 use Rattle.eval.proofs.Demand.{replies-are-told}
 
 pub asked-accepted : Accepted asked
-unfolding asked all goodOperand goodOptional goodTo goodInstruction accepted acceptedAsk flatten isBadChar isScalar tag M.asVariable
+unfolding asked all given holds goodOperand goodOptional goodTo goodInstruction accepted acceptedAsk flatten tag M.asVariable
 asked-accepted = tt
 
 pub asked-answered : answers asked (M.fresh believed) ≡ answered
-unfolding asked answered need found _>>=_ kindOf tag size family isScalar isBadChar leBytes leNumber bytesOf fromBytes flatten Memory.fresh sum liveCount liveBytes allocate access writeAt writeBytes readConstant readAt readBytes offsetAt offsetBy constantAddress pushFrame popFrame livePointer liveList rising goodVar goodBack goodBacks goodValue goodVars soundMemory sound changes shows steps goes lays ask enter answers M.start M.step M.stepOnce M.execute M.leave M.makeSlots M.fresh M.setStarted M.setValues M.allGood M.setReturned M.valueIf M.toOf M.setArguments M.asVariable M.setFrom M.pointerOf M.asPointer M.valueOf M.hostRead M.hostList
+unfolding asked answered need found _>>=_ kindOf tag size family isScalar isBadChar leBytes leNumber bytesOf fromBytes flatten Memory.fresh sum liveCount liveBytes allocate access writeAt writeBytes readConstant readAt readBytes offsetAt offsetBy constantAddress pushFrame popFrame livePointer liveList rising goodBack goodBacks goodValue goodValues isValue soundMachine soundMemory bytesIn all holds sound changes shows steps goes lays ask enter answers M.start M.step M.stepOnce M.execute M.leave M.makeSlots M.fresh M.setStarted M.setValues M.allGood M.setReturned M.valueIf M.toOf M.setArguments M.asVariable M.setFrom M.pointerOf M.asPointer M.valueOf M.hostRead M.hostList
 asked-answered = refl
 
 -- and so it is told

@@ -1,13 +1,14 @@
 -- Every ask of an accepted program keeps the state sound, so that from fresh memory on 10 is never given: each entry is what is asked.
-use Prim.Native.Nat.{ℕ, zero, suc, _<_}
+use Prim.Native.Nat.{ℕ, zero, suc, _-_, _^_, _<_}
 use native.Mathlib.Nat.{le-refl, not-suc-le-zero}
 use native.Mathlib.Omega.{arith}
 use native.Mathlib.Decide.{ℕ-discrete}
-use mathlib.Core.Bool.{Bool, true, false, _||_}
+use mathlib.Core.Bool.{Bool, true, false, not, _||_}
 use mathlib.Core.Path.{_≡_, refl, sym, ap, subst}
+use mathlib.Core.Option.{Option, none, some}
 use mathlib.Core.List.{List, [], _∷_, _++_}
 use lib.ListN.{length}
-use lib.Dec.{T, leb, eqb, leb→le, le→leb}
+use lib.Dec.{T, leb, eqb, leb→le, le→leb, ltb→lt, lt→ltb}
 use mir.Facts.{and-yes, yes-and}
 use Rattle.value.specs.Refusal.{notSound}
 use Rattle.value.specs.Answer.{pick}
@@ -15,54 +16,118 @@ use Rattle.memory.specs.Memory as Memory
 use Rattle.memory.specs.Memory.{Memory, liveCount, liveBytes, sum}
 use Rattle.eval.specs.Machine.{Machine, Vars, fresh}
 use Rattle.eval.specs.Believed.{believed}
-use Rattle.eval.specs.Sound.{rising, goodVar, goodBack, goodBacks, goodValue, goodVars, soundMemory, sound}
-use Rattle.eval.specs.Accepted.{all, acceptedAsk}
+use Rattle.value.specs.Value.{Value, value, Kind, bool, u8, u16, u32, u64, i8, i16, i32, i64, f32, f64, char, asn, pointer, tag, size, isBadChar, isScalar}
+use Rattle.value.specs.Tags.{holds}
+use Rattle.value.proofs.Roundtrip.{scalar-small}
+use Rattle.memory.specs.Stored.{isValue}
+use Rattle.memory.specs.Sound.{soundMachine, rising, goodBack, goodBacks, goodValue, goodValues, soundMemory}
+use Rattle.eval.specs.Sound.{all, bytesIn, sound}
+use Rattle.eval.specs.Accepted.{acceptedAsk}
 use Rattle.eval.specs.Asks.{Ask, Reply, refusal, turn, ask, replies, following}
 use Rattle.eval.specs.Entries.{enter, answers, onwards}
-use Rattle.eval.proofs.Kept.{Held, ask-held}
+use Rattle.eval.proofs.Kept.{GoodIf, Held, ask-held}
 use Rattle.eval.proofs.SoundMemory.{sound-solid, solid-sound, Later, later-same, later-then, sounds-kept}
 
 pub fresh-sound : T (sound (fresh believed))
-unfolding sound soundMemory rising goodBacks goodBack goodVar goodVars goodValue Memory.fresh sum liveCount liveBytes fresh
+unfolding sound soundMachine soundMemory bytesIn all rising goodBacks goodBack goodValues goodValue Memory.fresh sum liveCount liveBytes fresh
 fresh-sound = tt
 
 -- ---- the test, and the facts
 
-vars-good : (vs : Vars) (n : ℕ) → T (goodVars vs n) → (x : ℕ) → x < n → T (goodValue (vs x))
-unfolding goodVars
-vars-good vs zero t x l = absurd (not-suc-le-zero l)
-vars-good vs (suc n) t x l =
-    let u = and-yes (goodValue (vs n)) (goodVars vs n) t in
-    elim (ℕ-discrete x n) [ yes e ↦ subst (λ (k : ℕ). T (goodValue (vs k))) (sym e) (u .0) | no d ↦ vars-good vs n (u .1) x (omega arith) ]
+twice : (x : Bool) → T (not (not x)) → T x
+twice true t = tt
+twice false t = t
 
-good-vars : (vs : Vars) (n : ℕ) → ((x : ℕ) → x < n → T (goodValue (vs x))) → T (goodVars vs n)
-unfolding goodVars
-good-vars vs zero f = tt
-good-vars vs (suc n) f = yes-and (goodValue (vs n)) (goodVars vs n) (f n (le-refl _)) (good-vars vs n (λ x l. f x (omega arith)))
+again : (x : Bool) → T x → T (not (not x))
+again true t = tt
+again false t = t
+
+is-true : (x : Bool) → T x → x ≡ true
+is-true true t = refl
+is-true false t = absurd t
+
+-- the memory's word for a value is the value's own
+held-value : (k : Kind) (b : ℕ) → T (isValue (value k b)) → T (holds k b)
+unfolding isValue isBadChar holds tag size
+held-value bool b t = lt→ltb b 2 (omega (arith, leb→le b 1 (and-yes (leb b 1) true t .0)))
+held-value u8 b t = lt→ltb b (2 ^ 8) (omega (arith, leb→le b (2 ^ 8 - 1) (and-yes (leb b (2 ^ 8 - 1)) true t .0)))
+held-value u16 b t = lt→ltb b (2 ^ 16) (omega (arith, leb→le b (2 ^ 16 - 1) (and-yes (leb b (2 ^ 16 - 1)) true t .0)))
+held-value u32 b t = lt→ltb b (2 ^ 32) (omega (arith, leb→le b (2 ^ 32 - 1) (and-yes (leb b (2 ^ 32 - 1)) true t .0)))
+held-value u64 b t = lt→ltb b (2 ^ 64) (omega (arith, leb→le b (2 ^ 64 - 1) (and-yes (leb b (2 ^ 64 - 1)) true t .0)))
+held-value i8 b t = lt→ltb b (2 ^ 8) (omega (arith, leb→le b (2 ^ 8 - 1) (and-yes (leb b (2 ^ 8 - 1)) true t .0)))
+held-value i16 b t = lt→ltb b (2 ^ 16) (omega (arith, leb→le b (2 ^ 16 - 1) (and-yes (leb b (2 ^ 16 - 1)) true t .0)))
+held-value i32 b t = lt→ltb b (2 ^ 32) (omega (arith, leb→le b (2 ^ 32 - 1) (and-yes (leb b (2 ^ 32 - 1)) true t .0)))
+held-value i64 b t = lt→ltb b (2 ^ 64) (omega (arith, leb→le b (2 ^ 64 - 1) (and-yes (leb b (2 ^ 64 - 1)) true t .0)))
+held-value f32 b t = lt→ltb b (2 ^ 32) (omega (arith, leb→le b (2 ^ 32 - 1) (and-yes (leb b (2 ^ 32 - 1)) true t .0)))
+held-value f64 b t = lt→ltb b (2 ^ 64) (omega (arith, leb→le b (2 ^ 64 - 1) (and-yes (leb b (2 ^ 64 - 1)) true t .0)))
+held-value asn b t = lt→ltb b (2 ^ 32) (omega (arith, leb→le b (2 ^ 32 - 1) (and-yes (leb b (2 ^ 32 - 1)) true t .0)))
+held-value pointer b t = lt→ltb b (2 ^ 64) (omega (arith, leb→le b (2 ^ 64 - 1) (and-yes (leb b (2 ^ 64 - 1)) true t .0)))
+held-value char b t = twice (isScalar b) (and-yes (leb b (2 ^ 32 - 1)) (not (not (isScalar b))) t .1)
+
+value-held : (k : Kind) (b : ℕ) → T (holds k b) → T (isValue (value k b))
+unfolding isValue isBadChar holds tag size
+value-held bool b t = yes-and (leb b 1) true (le→leb b 1 (omega (arith, ltb→lt b 2 t))) tt
+value-held u8 b t = yes-and (leb b (2 ^ 8 - 1)) true (le→leb b (2 ^ 8 - 1) (omega (arith, ltb→lt b (2 ^ 8) t))) tt
+value-held u16 b t = yes-and (leb b (2 ^ 16 - 1)) true (le→leb b (2 ^ 16 - 1) (omega (arith, ltb→lt b (2 ^ 16) t))) tt
+value-held u32 b t = yes-and (leb b (2 ^ 32 - 1)) true (le→leb b (2 ^ 32 - 1) (omega (arith, ltb→lt b (2 ^ 32) t))) tt
+value-held u64 b t = yes-and (leb b (2 ^ 64 - 1)) true (le→leb b (2 ^ 64 - 1) (omega (arith, ltb→lt b (2 ^ 64) t))) tt
+value-held i8 b t = yes-and (leb b (2 ^ 8 - 1)) true (le→leb b (2 ^ 8 - 1) (omega (arith, ltb→lt b (2 ^ 8) t))) tt
+value-held i16 b t = yes-and (leb b (2 ^ 16 - 1)) true (le→leb b (2 ^ 16 - 1) (omega (arith, ltb→lt b (2 ^ 16) t))) tt
+value-held i32 b t = yes-and (leb b (2 ^ 32 - 1)) true (le→leb b (2 ^ 32 - 1) (omega (arith, ltb→lt b (2 ^ 32) t))) tt
+value-held i64 b t = yes-and (leb b (2 ^ 64 - 1)) true (le→leb b (2 ^ 64 - 1) (omega (arith, ltb→lt b (2 ^ 64) t))) tt
+value-held f32 b t = yes-and (leb b (2 ^ 32 - 1)) true (le→leb b (2 ^ 32 - 1) (omega (arith, ltb→lt b (2 ^ 32) t))) tt
+value-held f64 b t = yes-and (leb b (2 ^ 64 - 1)) true (le→leb b (2 ^ 64 - 1) (omega (arith, ltb→lt b (2 ^ 64) t))) tt
+value-held asn b t = yes-and (leb b (2 ^ 32 - 1)) true (le→leb b (2 ^ 32 - 1) (omega (arith, ltb→lt b (2 ^ 32) t))) tt
+value-held pointer b t = yes-and (leb b (2 ^ 64 - 1)) true (le→leb b (2 ^ 64 - 1) (omega (arith, ltb→lt b (2 ^ 64) t))) tt
+value-held char b t = yes-and (leb b (2 ^ 32 - 1)) (not (not (isScalar b))) (le→leb b (2 ^ 32 - 1) (omega (arith, scalar-small b (is-true (isScalar b) t)))) (again (isScalar b) t)
+
+value-good : (o : Option Value) → T (goodValue o) → GoodIf o
+unfolding goodValue
+value-good none t = tt
+value-good (some v) t = held-value (v .kind) (v .bits) t
+
+good-value : (o : Option Value) → GoodIf o → T (goodValue o)
+unfolding goodValue
+good-value none t = tt
+good-value (some v) t = value-held (v .kind) (v .bits) t
+
+values-good : (vs : Vars) (n : ℕ) → T (goodValues vs n) → (x : ℕ) → x < n → GoodIf (vs x)
+unfolding goodValues
+values-good vs zero t x l = absurd (not-suc-le-zero l)
+values-good vs (suc n) t x l =
+    let u = and-yes (goodValues vs n) (goodValue (vs n)) t in
+    elim (ℕ-discrete x n) [ yes e ↦ subst (λ (k : ℕ). GoodIf (vs k)) (sym e) (value-good (vs n) (u .1)) | no d ↦ values-good vs n (u .0) x (omega arith) ]
+
+good-values : (vs : Vars) (n : ℕ) → ((x : ℕ) → x < n → GoodIf (vs x)) → T (goodValues vs n)
+unfolding goodValues
+good-values vs zero f = tt
+good-values vs (suc n) f = yes-and (goodValues vs n) (goodValue (vs n)) (good-values vs n (λ x l. f x (omega arith))) (good-value (vs n) (f n (le-refl _)))
 
 module _ {m₀ : Memory} {s : Machine Memory} where
   pub sound-held : T (sound s) → Later m₀ (s .memory) → Held (sounds-kept m₀) s
-  unfolding sound
+  unfolding sound soundMachine
   sound-held t l =
-      let a = and-yes (soundMemory (s .memory)) _ t in
+      let z = and-yes (soundMachine (s .memory) (s .running) (s .place) (s .vars)) (bytesIn (s .memory .frames)) t in
+      let a = and-yes (soundMemory (s .memory)) _ (z .0) in
       let b = and-yes (leb (s .place) 4096) _ (a .1) in
-      let c = and-yes (goodVars (s .vars) 256) (s .running || eqb (length (s .memory .frames)) 1) (b .1) in
+      let c = and-yes (goodValues (s .vars) 256) (s .running || eqb (length (s .memory .frames)) 1) (b .1) in
       record {
-        memory = record { solid = sound-solid (s .memory) (a .0); later = l; idle = c .1 };
+        memory = record { solid = sound-solid (s .memory) (a .0) (z .1); later = l; idle = c .1 };
         place = leb→le (s .place) 4096 (b .0);
-        vars = vars-good (s .vars) 256 (c .0);
+        vars = values-good (s .vars) 256 (c .0);
       }
 
   held-sound : Held (sounds-kept m₀) s → T (sound s)
-  unfolding sound
+  unfolding sound soundMachine bytesIn
   held-sound h =
-      yes-and (soundMemory (s .memory)) _ (solid-sound (s .memory) (h .memory .solid))
+      yes-and (soundMachine (s .memory) (s .running) (s .place) (s .vars)) (bytesIn (s .memory .frames))
+      (yes-and (soundMemory (s .memory)) _ (solid-sound (s .memory) (h .memory .solid))
       (yes-and (leb (s .place) 4096) _ (le→leb (s .place) 4096 (h .place))
-      (yes-and (goodVars (s .vars) 256) (s .running || eqb (length (s .memory .frames)) 1) (good-vars (s .vars) 256 (h .vars)) (h .memory .idle)))
+      (yes-and (goodValues (s .vars) 256) (s .running || eqb (length (s .memory .frames)) 1) (good-values (s .vars) 256 (h .vars)) (h .memory .idle))))
+      (h .memory .solid .contents)
 
 pub sound-root : (s : Machine Memory) → T (sound s) → 0 < length (s .memory .frames)
-unfolding sound
-sound-root s t = sound-solid (s .memory) (and-yes (soundMemory (s .memory)) _ t .0) .root
+sound-root s t = sound-held {m₀ = s .memory} t (later-same (s .memory)) .memory .solid .root
 
 -- Every accepted ask of a sound state leaves a sound state, later than the one before.
 pub ask-sound : (a : Ask) (s : Machine Memory) → T (acceptedAsk a) → T (sound s) → T (sound (ask believed a s .machine)) × Later (s .memory) (ask believed a s .machine .memory)

@@ -1,4 +1,4 @@
--- Each operation of a memory keeps it sound, and what a later memory still has of an earlier one: its pointers, and no frame in an ended one's place.
+-- Each operation of a memory keeps it sound; and what a later memory still has of an earlier one: its pointers, and no frame in an ended one's place.
 use Prim.Native.Nat.{ℕ, zero, suc, _+_, _-_, _≤_, _<_}
 use native.Mathlib.Nat.{le-refl, le-trans, le-of-suc-le-suc, not-suc-le-zero}
 use native.Mathlib.Omega.{arith}
@@ -8,17 +8,17 @@ use mathlib.Core.Bool.{Bool, true, false, _&&_, _||_}
 use mathlib.Core.Path.{_≡_, refl, sym, ap, _∙_, subst}
 use mathlib.Core.List.{List, [], _∷_, _++_, map, map-append}
 use mathlib.Core.Option.{none, some}
-use lib.ListN.{length, getD, take, set, replicate, length-set, length-append, length-replicate, length-drop, List·getD-append}
+use lib.ListN.{length, getD, take, drop, set, replicate, length-set, length-append, length-replicate, length-drop, List·getD-append}
 use lib.Seq.{map-set-same, getD-append-seam, getD-take, length-take-le}
 use lib.Dec.{T, ltb, leb, eqb, eqb→eq, ltb→lt, leb→le, lt→ltb, le→leb}
 use mir.Facts.{and-yes, yes-and}
 use Rattle.value.specs.Answer.{Answer, pick}
-use Rattle.memory.specs.Memory.{Memory, Back, Frame, Pointer, constant, local, noFrame, frameAt, pointerAt, top, stands, bytesAt, sum, liveCount, liveBytes, withPointer, withFrames, withAllocations, allocated, allocate, constantAddress, access, overwrite, written, writeAt, writeBytes, offsetAt, offsetBy, pushed, pushFrame, popped, popFrame}
-use Rattle.eval.specs.Sound.{rising, goodBack, goodBacks, soundMemory}
-use Rattle.eval.specs.Accepted.{all}
+use Rattle.memory.specs.Memory.{Memory, Back, Frame, Pointer, constant, local, noFrame, frameAt, pointerAt, top, stands, bytesAt, sum, liveCount, liveBytes, withPointer, withFrames, withAllocations, allocated, allocate, constantAddress, access, overwrite, written, writeAt, writeBytes, readConstant, readAt, readBytes, offsetAt, offsetBy, pushed, pushFrame, popped, popFrame}
+use Rattle.memory.specs.Sound.{rising, goodBack, goodBacks, soundMemory}
+use Rattle.eval.specs.Sound.{all, areBytes, bytesIn}
 use Rattle.eval.specs.Believed.{believed}
 use Rattle.eval.proofs.Agree.{ids, id-at, length-snoc}
-use Rattle.eval.proofs.Values.{Keeps, kept, no-answer, keeps-need}
+use Rattle.eval.proofs.Values.{Bytes, Keeps, kept, no-answer, keeps-need}
 use Rattle.eval.proofs.Kept.{Kept, Popping, at-root, back-to}
 
 -- ---- sums over a list
@@ -104,6 +104,47 @@ all-snoc g (y ∷ l) x = rw (all-snoc g l x) (go (g y) (all g l) (g x))
     go true b c = refl
     go false b c = refl
 
+all-set : {A : Type 0} (g : A → Bool) (l : List A) (i : ℕ) (x : A) → T (all g l) → T (g x) → T (all g (set l i x))
+unfolding all
+all-set g [] i x t u = t
+all-set g (y ∷ l) zero x t u = yes-and (g x) (all g l) u (and-yes (g y) (all g l) t .1)
+all-set g (y ∷ l) (suc i) x t u = let v = and-yes (g y) (all g l) t in yes-and (g y) (all g (set l i x)) (v .0) (all-set g l i x (v .1) u)
+
+all-at : {A : Type 0} (g : A → Bool) (l : List A) (i : ℕ) (d : A) → T (all g l) → T (g d) → T (g (getD l i d))
+unfolding all
+all-at g [] i d t u = u
+all-at g (y ∷ l) zero d t u = and-yes (g y) (all g l) t .0
+all-at g (y ∷ l) (suc i) d t u = all-at g l i d (and-yes (g y) (all g l) t .1) u
+
+all-both : {A : Type 0} (g : A → Bool) (l r : List A) → T (all g l) → T (all g r) → T (all g (l ++ r))
+unfolding all
+all-both g [] r t u = u
+all-both g (y ∷ l) r t u = let v = and-yes (g y) (all g l) t in yes-and (g y) (all g (l ++ r)) (v .0) (all-both g l r (v .1) u)
+
+all-take : {A : Type 0} (g : A → Bool) (n : ℕ) (l : List A) → T (all g l) → T (all g (take n l))
+unfolding all
+all-take g zero l t = tt
+all-take g (suc n) [] t = t
+all-take g (suc n) (y ∷ l) t = let v = and-yes (g y) (all g l) t in yes-and (g y) (all g (take n l)) (v .0) (all-take g n l (v .1))
+
+all-drop : {A : Type 0} (g : A → Bool) (n : ℕ) (l : List A) → T (all g l) → T (all g (drop n l))
+unfolding all
+all-drop g zero l t = t
+all-drop g (suc n) [] t = t
+all-drop g (suc n) (y ∷ l) t = all-drop g n l (and-yes (g y) (all g l) t .1)
+
+zero-bytes : (n : ℕ) → T (areBytes (replicate n 0))
+unfolding all
+zero-bytes zero = tt
+zero-bytes (suc n) = yes-and (ltb 0 256) (areBytes (replicate n 0)) tt (zero-bytes n)
+
+overwrite-bytes : (l : List ℕ) (o : ℕ) (bs : List ℕ) → T (areBytes l) → T (areBytes bs) → T (areBytes (overwrite l o bs))
+overwrite-bytes l o bs t u = all-both _ (take o l) (bs ++ drop (o + length bs) l) (all-take _ o l t) (all-both _ bs (drop (o + length bs) l) u (all-drop _ (o + length bs) l t))
+
+-- the bytes of a frame's allocations
+abbrev pub frameBytes : Frame → Bool
+frameBytes f = all areBytes (f .allocations)
+
 -- ---- a sound memory, fact by fact
 
 pub record Solid (m : Memory) : Type 0 where
@@ -116,21 +157,22 @@ pub record Solid (m : Memory) : Type 0 where
   pub bytes : liveBytes (m .frames) ≤ 32768
   pub pointers : length (m .pointers) ≤ 4096
   pub returns : T (all goodBack (backs (m .frames)))
+  pub contents : T (all frameBytes (m .frames))
 
-pub sound-solid : (m : Memory) → T (soundMemory m) → Solid m
-unfolding soundMemory
-sound-solid m t =
-    let a = and-yes (leb 1 (length (m .frames)) && leb (length (m .frames)) 64) _ t in
-    let b = and-yes (leb 1 (length (m .frames))) (leb (length (m .frames)) 64) (a .0) in
-    let c = and-yes (eqb (frameAt (m .frames) 0 .id) 0) _ (a .1) in
+pub sound-solid : (m : Memory) → T (soundMemory m) → T (bytesIn (m .frames)) → Solid m
+unfolding soundMemory bytesIn
+sound-solid m t u =
+    let a = and-yes (leb 1 (length (m .frames))) _ t in
+    let b = and-yes (leb (length (m .frames)) 64) _ (a .1) in
+    let c = and-yes (eqb (frameAt (m .frames) 0 .id) 0) _ (b .1) in
     let d = and-yes (rising (m .frames) (m .counter)) _ (c .1) in
     let e = and-yes (leb (m .counter) 4294967295) _ (d .1) in
     let f = and-yes (leb (liveCount (m .frames)) 512) _ (e .1) in
     let g = and-yes (leb (liveBytes (m .frames)) 32768) _ (f .1) in
     let h = and-yes (leb (length (m .pointers)) 4096) (goodBacks (m .frames)) (g .1) in
     record {
-      root = leb→le 1 (length (m .frames)) (b .0);
-      depth = leb→le (length (m .frames)) 64 (b .1);
+      root = leb→le 1 (length (m .frames)) (a .0);
+      depth = leb→le (length (m .frames)) 64 (b .0);
       root-id = eqb→eq (frameAt (m .frames) 0 .id) 0 (c .0);
       rises = subst T (rising-ids (m .frames) (m .counter)) (d .0);
       counted = leb→le (m .counter) 4294967295 (e .0);
@@ -138,20 +180,21 @@ sound-solid m t =
       bytes = leb→le (liveBytes (m .frames)) 32768 (g .0);
       pointers = leb→le (length (m .pointers)) 4096 (h .0);
       returns = subst T (good-backs (m .frames)) (h .1);
+      contents = u;
     }
 
 pub solid-sound : (m : Memory) → Solid m → T (soundMemory m)
 unfolding soundMemory
 solid-sound m s =
-    yes-and (leb 1 (length (m .frames)) && leb (length (m .frames)) 64) _
-    (yes-and (leb 1 (length (m .frames))) (leb (length (m .frames)) 64) (le→leb 1 (length (m .frames)) (s .root)) (le→leb (length (m .frames)) 64 (s .depth)))
+    yes-and (leb 1 (length (m .frames))) _ (le→leb 1 (length (m .frames)) (s .root))
+    (yes-and (leb (length (m .frames)) 64) _ (le→leb (length (m .frames)) 64 (s .depth))
     (yes-and (eqb (frameAt (m .frames) 0 .id) 0) _ (rw (s .root-id) tt)
     (yes-and (rising (m .frames) (m .counter)) _ (subst T (sym (rising-ids (m .frames) (m .counter))) (s .rises))
     (yes-and (leb (m .counter) 4294967295) _ (le→leb (m .counter) 4294967295 (s .counted))
     (yes-and (leb (liveCount (m .frames)) 512) _ (le→leb (liveCount (m .frames)) 512 (s .count))
     (yes-and (leb (liveBytes (m .frames)) 32768) _ (le→leb (liveBytes (m .frames)) 32768 (s .bytes))
     (yes-and (leb (length (m .pointers)) 4096) (goodBacks (m .frames)) (le→leb (length (m .pointers)) 4096 (s .pointers))
-    (subst T (sym (good-backs (m .frames))) (s .returns))))))))
+    (subst T (sym (good-backs (m .frames))) (s .returns)))))))))
 
 -- ---- an earlier memory and a later one
 
@@ -191,6 +234,7 @@ one-more m q l s = record {
     bytes = s .bytes;
     pointers = rw length-snoc (omega arith);
     returns = s .returns;
+    contents = s .contents;
   };
   later = record {
     counter = le-refl _;
@@ -217,8 +261,8 @@ module _ (m : Memory) (i : ℕ) (bss : List (List ℕ)) (s : Solid m) where
   same-depth : length changed ≡ length (m .frames)
   same-depth = length-set (m .frames) i _
 
-  change : liveCount changed ≤ 512 → liveBytes changed ≤ 32768 → Grown m (withFrames m changed)
-  change a b = record {
+  change : T (all areBytes bss) → liveCount changed ≤ 512 → liveBytes changed ≤ 32768 → Grown m (withFrames m changed)
+  change t a b = record {
     solid = record {
       root = rw same-depth (s .root);
       depth = rw same-depth (s .depth);
@@ -229,6 +273,7 @@ module _ (m : Memory) (i : ℕ) (bss : List (List ℕ)) (s : Solid m) where
       bytes = b;
       pointers = s .pointers;
       returns = rw same-backs (s .returns);
+      contents = all-set frameBytes (m .frames) i (withAllocations (frameAt (m .frames) i) bss) (s .contents) t;
     };
     later = record {
       counter = le-refl _;
@@ -245,7 +290,7 @@ grown-then x y = record { solid = y .solid; later = later-then (x .later) (y .la
 -- ---- the operations
 
 allocated-grown : (m : Memory) (n : ℕ) → Solid m → liveCount (m .frames) < 512 → liveBytes (m .frames) + n ≤ 32768 → length (m .pointers) < 4096 → Grown m (allocated m n)
-unfolding liveCount liveBytes sum
+unfolding liveCount liveBytes sum all
 allocated-grown m n s a b c =
     let t : ℕ = top (m .frames) in
     let f : Frame = frameAt (m .frames) t in
@@ -255,22 +300,25 @@ allocated-grown m n s a b c =
     let sizes = sum-set (λ (g : Frame). sum (map length (g .allocations))) (m .frames) t (withAllocations f bss) noFrame in-stack in
     let one : length bss ≡ length (f .allocations) + 1 = length-snoc (f .allocations) (replicate n 0) in
     let more : sum (map length bss) ≡ sum (map length (f .allocations)) + n = sum-snoc length (f .allocations) (replicate n 0) ∙ ap (λ (k : ℕ). sum (map length (f .allocations)) + k) (length-replicate n 0) in
-    let g = change m t bss s (omega (arith, counts, one)) (omega (arith, sizes, more)) in
+    let old : T (frameBytes f) = all-at frameBytes (m .frames) t noFrame (s .contents) tt in
+    let g = change m t bss s (all-both areBytes (f .allocations) (replicate n 0 ∷ []) old (yes-and (areBytes (replicate n 0)) true (zero-bytes n) tt)) (omega (arith, counts, one)) (omega (arith, sizes, more)) in
     grown-then g (one-more _ (local t (f .id) (length (f .allocations)) 0) c (g .solid))
 
 length-overwrite : (l : List ℕ) (o : ℕ) (bs : List ℕ) → o + length bs ≤ length l → length (overwrite l o bs) ≡ length l
 length-overwrite l o bs h = simp (length-append, length-take-le o l (omega arith), length-drop) (omega arith)
 
-written-grown : (m : Memory) (i j o : ℕ) (bs : List ℕ) → Solid m → i < length (m .frames) → o + length bs ≤ length (bytesAt (m .frames) i j) → Grown m (written m i j o bs)
-unfolding liveCount liveBytes
-written-grown m i j o bs s in-stack within =
+written-grown : (m : Memory) (i j o : ℕ) (bs : List ℕ) → T (areBytes bs) → Solid m → i < length (m .frames) → o + length bs ≤ length (bytesAt (m .frames) i j) → Grown m (written m i j o bs)
+unfolding liveCount liveBytes all
+written-grown m i j o bs fine s in-stack within =
     let f : Frame = frameAt (m .frames) i in
     let bss : List (List ℕ) = set (f .allocations) j (overwrite (bytesAt (m .frames) i j) o bs) in
     let counts = sum-set (λ (g : Frame). length (g .allocations)) (m .frames) i (withAllocations f bss) noFrame in-stack in
     let sizes = sum-set (λ (g : Frame). sum (map length (g .allocations))) (m .frames) i (withAllocations f bss) noFrame in-stack in
     let as-many : length bss ≡ length (f .allocations) = length-set (f .allocations) j _ in
     let as-long : sum (map length bss) ≡ sum (map length (f .allocations)) = ap sum (map-set-same length (f .allocations) j _ [] (length-overwrite _ o bs within)) in
-    change m i bss s (omega (arith, counts, as-many, s .count)) (omega (arith, sizes, as-long, s .bytes))
+    let old : T (frameBytes f) = all-at frameBytes (m .frames) i noFrame (s .contents) tt in
+    let new : T (all areBytes bss) = all-set areBytes (f .allocations) j _ old (overwrite-bytes (bytesAt (m .frames) i j) o bs (all-at areBytes (f .allocations) j [] old tt) fine) in
+    change m i bss s new (omega (arith, counts, as-many, s .count)) (omega (arith, sizes, as-long, s .bytes))
 
 module _ (m : Memory) (s : Solid m) where
   allocate-grown : (n : ℕ) → Keeps (Grown m) (allocate m n)
@@ -293,17 +341,29 @@ module _ (m : Memory) (s : Solid m) where
   unfolding offsetBy
   offset-grown p d = keeps-need (Grown m) _ _ (λ a. offset-at-grown (pointerAt m p) d)
 
-  write-at-grown : (q : Pointer) (bs : List ℕ) → Keeps (Grown m) (writeAt m q bs)
+  write-at-grown : (q : Pointer) (bs : List ℕ) → T (areBytes bs) → Keeps (Grown m) (writeAt m q bs)
   unfolding writeAt access
-  write-at-grown (constant k) bs = no-answer
-  write-at-grown (local i f j o) bs =
+  write-at-grown (constant k) bs fine = no-answer
+  write-at-grown (local i f j o) bs fine =
       keeps-need (Grown m) (stands (m .frames) i f) _ (λ a. keeps-need (Grown m) _ _ (λ b. keeps-need (Grown m) _ _ (λ c. keeps-need (Grown m) _ _ (λ d.
-      kept (written-grown m i j o bs s (ltb→lt i (length (m .frames)) (and-yes (ltb i (length (m .frames))) (eqb (frameAt (m .frames) i .id) f) a .0))
+      kept (written-grown m i j o bs fine s (ltb→lt i (length (m .frames)) (and-yes (ltb i (length (m .frames))) (eqb (frameAt (m .frames) i .id) f) a .0))
       (leb→le (o + length bs) (length (bytesAt (m .frames) i j)) c))))))
 
-  write-grown : (p : ℕ) (bs : List ℕ) → Keeps (Grown m) (writeBytes m p bs)
+  write-grown : (p : ℕ) (bs : List ℕ) → T (areBytes bs) → Keeps (Grown m) (writeBytes m p bs)
   unfolding writeBytes
-  write-grown p bs = keeps-need (Grown m) _ _ (λ a. write-at-grown (pointerAt m p) bs)
+  write-grown p bs fine = keeps-need (Grown m) _ _ (λ a. write-at-grown (pointerAt m p) bs fine)
+
+  read-bytes : (constants : List (List ℕ)) → T (all areBytes constants) → (p n : ℕ) → Keeps (Bytes n) (readBytes constants m p n)
+  unfolding readBytes readAt readConstant access all
+  read-bytes constants fine p n = keeps-need (Bytes n) _ _ (λ a. go (pointerAt m p))
+    where
+      go : (q : Pointer) → Keeps (Bytes n) (readAt constants (m .frames) q n)
+      go (constant k) = keeps-need (Bytes n) _ _ (λ a. keeps-need (Bytes n) _ _ (λ b.
+          kept (length-take-le n _ (leb→le n _ b), all-take _ n _ (all-at areBytes constants k [] fine tt))))
+      go (local i f j o) = keeps-need (Bytes n) (stands (m .frames) i f) _ (λ a. keeps-need (Bytes n) _ _ (λ b. keeps-need (Bytes n) _ _ (λ c. keeps-need (Bytes n) _ _ (λ d.
+          let within : o + n ≤ length (bytesAt (m .frames) i j) = leb→le (o + n) _ c in
+          let old : T (frameBytes (frameAt (m .frames) i)) = all-at frameBytes (m .frames) i noFrame (s .contents) tt in
+          kept (length-take-le n _ (rw length-drop (omega arith)), all-take _ n _ (all-drop _ o _ (all-at areBytes (frameAt (m .frames) i .allocations) j [] old tt)))))))
 
 -- ---- a frame begins, a frame ends
 
@@ -313,7 +373,7 @@ pub record Changed (m m′ : Memory) : Type 0 where
 
 module _ (m : Memory) (s : Solid m) where
   pushed-changed : (b : Back) → T (goodBack b) → length (m .frames) < 64 → m .counter < 4294967295 → Changed m (pushed m b)
-  unfolding liveCount liveBytes sum
+  unfolding liveCount liveBytes sum all
   pushed-changed b good deep few = record {
     solid = record {
       root = rw length-snoc (omega arith);
@@ -325,6 +385,7 @@ module _ (m : Memory) (s : Solid m) where
       bytes = omega (arith, sum-snoc (λ (f : Frame). sum (map length (f .allocations))) (m .frames) new, s .bytes);
       pointers = s .pointers;
       returns = rw (map-append (λ (f : Frame). f .back) (m .frames) (new ∷ []), all-snoc goodBack (backs (m .frames)) b) (yes-and (all goodBack (backs (m .frames))) (goodBack b) (s .returns) good);
+      contents = rw (all-snoc frameBytes (m .frames) new) (yes-and (all frameBytes (m .frames)) (frameBytes new) (s .contents) tt);
     };
     later = record { counter = omega arith; given = λ p h. (h, refl); stood = stood };
   }
@@ -380,6 +441,7 @@ module _ (m : Memory) (s : Solid m) where
         bytes = omega (arith, ap (λ (fs : List Frame). sum (map (λ (f : Frame). sum (map length (f .allocations))) fs)) split, sum-snoc (λ (f : Frame). sum (map length (f .allocations))) front last, s .bytes);
         pointers = s .pointers;
         returns = split-returns .0;
+        contents = all-take frameBytes (top (m .frames)) (m .frames) (s .contents);
       };
       later = record { counter = le-refl _; given = λ p h. (h, refl); stood = stood };
     }
@@ -432,7 +494,9 @@ module _ (m₀ : Memory) where
     allocate = λ x n. all-grown x (allocate-grown _ (x .solid) n);
     address = λ x k. all-grown x (address-grown _ (x .solid) k);
     offset = λ x p d. all-grown x (offset-grown _ (x .solid) p d);
-    write = λ x p bs. all-grown x (write-grown _ (x .solid) p bs);
+    given = λ x. omega (arith, x .solid .pointers);
+    read = λ x constants fine p n. read-bytes _ (x .solid) constants fine p n;
+    write = λ x p bs fine. all-grown x (write-grown _ (x .solid) p bs fine);
     push = push-sounds;
     pop = pop-sounds;
   }

@@ -1,23 +1,21 @@
--- What the entries may take for granted of a program because its image was accepted: each operand names a variable below the count or is a good
--- value, a Call's `to` is below it too, there are at most 256 variables, and at most 4,096 instructions over all.
+-- What the entries may take for granted of a program because its image was accepted: each operand names a variable below the count or is a value,
+-- a Call's `to` is below it too, raw bytes are bytes, there are at most 256 variables, and at most 4,096 instructions over all.
 use Prim.Native.Nat.{ℕ}
-use mathlib.Core.Bool.{Bool, true, not, _&&_}
-use mathlib.Core.List.{List, [], _∷_}
+use mathlib.Core.Bool.{Bool, true, _&&_, _||_}
+use mathlib.Core.List.{_∷_}
 use mathlib.Core.Option.{Option, none, some}
 use lib.ListN.{length}
 use lib.Dec.{ltb, leb}
-use Rattle.value.specs.Value.{isBadChar}
+use Rattle.value.specs.Value.{Value, char, same}
+use Rattle.value.specs.Tags.{holds}
 use Rattle.image.specs.Program.{Program, Operand, variable, literal, Declared, code, Instruction, Jump, Switch, Assign, ConstantAddress, Call, Return, IntCmp′, FloatCmp′, Add, Sub, Mul, Div, Mod, FDiv, Not, Negate, Offset, Initialize, Write, Read, Copy, Drop}
 use Rattle.eval.specs.Machine.{asVariable}
+use Rattle.eval.specs.Sound.{all, areBytes}
 use Rattle.eval.specs.Asks.{Ask, toAllocate, toWrite, toRead, toStart, toStep, toRun, toList}
-
-unfoldable pub all : {A : Type 0} → (A → Bool) → List A → Bool
-all f [] = true
-all f (x ∷ xs) = f x && all f xs
 
 unfoldable pub goodOperand : (count : ℕ) → Operand → Bool
 goodOperand n (variable x) = ltb x n
-goodOperand n (literal v) = not (isBadChar v)
+goodOperand n (literal v) = holds (v .kind) (v .bits)
 
 unfoldable pub goodOptional : (count : ℕ) → Option Operand → Bool
 goodOptional n none = true
@@ -49,21 +47,25 @@ goodInstruction n (FDiv to x y) = both n x y
 goodInstruction n (Not to x) = goodOperand n x
 goodInstruction n (Negate to x) = goodOperand n x
 goodInstruction n (Offset to x d) = goodOperand n x
-goodInstruction n (Initialize to size bytes) = true
+goodInstruction n (Initialize to size bytes) = areBytes bytes
 goodInstruction n (Write x y) = both n x y
 goodInstruction n (Read to x type) = goodOperand n x
 goodInstruction n (Copy x y size) = both n x y
 goodInstruction n (Drop x) = goodOperand n x
 
 unfoldable pub accepted : Program → Bool
-accepted P = leb (P .variables) 256 && (leb (length (code P)) 4096 && all (goodInstruction (P .variables)) (code P))
+accepted P = leb (P .variables) 256 && (leb (length (code P)) 4096 && (all areBytes (P .constants) && all (goodInstruction (P .variables)) (code P)))
 
--- of an ask that runs a program
+-- a value as an entry takes it: only a Char may be wrong, and then it is 15
+unfoldable pub given : Value → Bool
+given v = same (v .kind) char || holds (v .kind) (v .bits)
+
+-- an accepted program where one is run, values and bytes
 unfoldable pub acceptedAsk : Ask → Bool
 acceptedAsk (toAllocate n) = true
-acceptedAsk (toWrite p bs) = true
+acceptedAsk (toWrite p bs) = areBytes bs
 acceptedAsk (toRead P p n) = true
-acceptedAsk (toStart P f context gs) = accepted P
+acceptedAsk (toStart P f context gs) = accepted P && all given (context ∷ gs)
 acceptedAsk (toStep P) = accepted P
 acceptedAsk (toRun P budget) = accepted P
 acceptedAsk (toList room) = true

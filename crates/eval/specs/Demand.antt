@@ -12,8 +12,8 @@ use Rattle.image.specs.Program.{Program}
 use Rattle.memory.specs.Memory.{Memory, readBytes, writeBytes}
 use Rattle.eval.specs.Machine.{Machine, fresh}
 use Rattle.eval.specs.Believed.{believed}
-use Rattle.eval.specs.Sound.{sound}
-use Rattle.eval.specs.Accepted.{all, acceptedAsk}
+use Rattle.eval.specs.Sound.{all, sound}
+use Rattle.eval.specs.Accepted.{acceptedAsk}
 use Rattle.eval.specs.Asks.{Ask, toRead, toList, Reply, bytes, lists, refusal, replies, following}
 use Rattle.eval.specs.Entries.{enter, answers, onwards}
 use Rattle.eval.specs.History.{History, ofConstant, ofPlace, madeIn, madeAt, StandsFor, Open, Ended, toldList}

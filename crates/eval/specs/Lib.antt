@@ -7,6 +7,8 @@ pub mod Entries
 pub mod Count
 pub mod Cases
 pub mod Variables
+pub mod Decode
+pub mod Code
 pub mod History
 pub mod Recalled
 pub mod Flat

@@ -1,63 +1,23 @@
 -- A sound state. Each entry that takes a state asks this of it first, and else answers 10.
-use Prim.Native.Nat.{ℕ, zero, suc}
-use mathlib.Core.Bool.{Bool, true, not, _&&_, _||_}
+use Prim.Native.Nat.{ℕ}
+use mathlib.Core.Bool.{Bool, true, _&&_}
 use mathlib.Core.List.{List, [], _∷_}
-use mathlib.Core.Option.{Option, none, some}
-use lib.ListN.{length}
-use lib.Dec.{ltb, leb, eqb}
-use Rattle.value.specs.Value.{Value, isBadChar}
-use Rattle.memory.specs.Memory.{Memory, Frame, Back, frameAt, liveCount, liveBytes}
-use Rattle.eval.specs.Machine.{Machine, Vars}
+use lib.Dec.{ltb}
+use Rattle.memory.specs.Memory.{Memory, Frame}
+use Rattle.memory.specs.Sound.{soundMachine}
+use Rattle.eval.specs.Machine.{Machine}
 
--- "ids rise up the stack and lie below the counter": each id is below the next, and the last below the counter
-unfoldable pub rising : List Frame → (counter : ℕ) → Bool
-rising [] c = true
-rising (f ∷ []) c = ltb (f .id) c
-rising (f ∷ g ∷ fs) c = ltb (f .id) (g .id) && rising (g ∷ fs) c
+unfoldable pub all : {A : Type 0} → (A → Bool) → List A → Bool
+all f [] = true
+all f (x ∷ xs) = f x && all f xs
 
-unfoldable pub goodVar : Option ℕ → Bool
-goodVar none = true
-goodVar (some x) = ltb x 256
+-- a byte is a number below 256
+abbrev pub areBytes : List ℕ → Bool
+areBytes bs = all (λ b. ltb b 256) bs
 
--- "return variables below 256, next and return places at most 4,096"
-unfoldable pub goodBack : Back → Bool
-goodBack b = goodVar (b .var) && leb (b .place) 4096
+unfoldable pub bytesIn : List Frame → Bool
+bytesIn fs = all (λ (f : Frame). all areBytes (f .allocations)) fs
 
--- of every frame, the root's too
-unfoldable pub goodBacks : List Frame → Bool
-goodBacks [] = true
-goodBacks (f ∷ fs) = goodBack (f .back) && goodBacks fs
-
--- "stored Chars scalar"
-unfoldable pub goodValue : Option Value → Bool
-goodValue none = true
-goodValue (some v) = not (isBadChar v)
-
--- of the first n variables
-unfoldable pub goodVars : Vars → (n : ℕ) → Bool
-goodVars vs zero = true
-goodVars vs (suc n) = goodValue (vs n) && goodVars vs n
-
--- what is asked of the memory; its allocations lie end to end because each frame has a list of them
-unfoldable pub soundMemory : Memory → Bool
-soundMemory m =
-    -- "Depth 1 to 64; frame 0 has id 0"
-    (leb 1 (length (m .frames)) && leb (length (m .frames)) 64)
-    && (eqb (frameAt (m .frames) 0 .id) 0
-    -- "ids rise up the stack and lie below the counter, itself at most 4,294,967,295"
-    && (rising (m .frames) (m .counter)
-    && (leb (m .counter) 4294967295
-    -- "allocations number at most 512, total at most 32,768"
-    && (leb (liveCount (m .frames)) 512
-    && (leb (liveBytes (m .frames)) 32768
-    -- "pointers at most 4,096; return variables below 256, .. return places at most 4,096"
-    && (leb (length (m .pointers)) 4096
-    && goodBacks (m .frames)))))))
-
+-- the list of a sound state; and the bytes of its allocations are bytes
 unfoldable pub sound : Machine Memory → Bool
-sound s =
-    soundMemory (s .memory)
-    -- "next .. places at most 4,096; stored Chars scalar; idle only at depth 1"
-    && (leb (s .place) 4096
-    && (goodVars (s .vars) 256
-    && (s .running || eqb (length (s .memory .frames)) 1)))
+sound s = soundMachine (s .memory) (s .running) (s .place) (s .vars) && bytesIn (s .memory .frames)

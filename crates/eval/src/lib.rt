@@ -1,2 +1,4 @@
 // The evaluator, from lir/eval.rs: operands, one step, start, run and the host's calls.
+pub mod field;
+pub mod step;
 pub mod variables;

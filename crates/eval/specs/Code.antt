@@ -1,0 +1,54 @@
+-- What each instruction of the code makes of registers and tables, by the fields that it reads again at its place.
+use Prim.Native.Nat.{ℕ, zero, suc}
+use mathlib.Core.List.{List}
+use lib.ListN.{length, getD}
+use lib.Dec.{ltb, eqb}
+use Rattle.value.specs.Refusal.{noInstruction, wrongKinds}
+use Rattle.value.specs.Answer.{pick}
+use Rattle.memory.specs.Tables.{Both, both, registers}
+use Rattle.memory.specs.declared.Registers.{Registers}
+use Rattle.eval.specs.Decode.{fieldAt, operandAt}
+use Rattle.eval.specs.Variables.{found, setVariable, evaluated}
+use Rattle.eval.specs.declared.field.Field.{Field}
+use Rattle.eval.specs.declared.variables.Found.{Found}
+use Rattle.eval.specs.declared.step.Progress.{Progress}
+use Rattle.eval.specs.declared.step.Progress.the-variants.{Next, Refused}
+
+-- a result goes to a variable, or is refused
+unfoldable pub finishedOf : Registers → (vars : List ℕ) → (to : ℕ) → Found → Both Progress
+finishedOf m vars to r = pick (eqb (r .tag) 0) (both (Refused (r .bits)) vars) (both (Next m) (setVariable vars to r))
+
+unfoldable pub assignedOf : Registers → (image vars : List ℕ) → (at : ℕ) → Both Progress
+assignedOf m s vars at =
+    let to = fieldAt s at in
+    finishedOf m vars (to .value) (evaluated vars (operandAt s (to .next)))
+
+abbrev pub withNext : Registers → ℕ → Registers
+withNext m k = registers (m .running) k (m .counter) (m .depth) (m .pointers)
+
+-- on to a label's place; an accepted instruction has no other labels
+unfoldable pub wentOf : Registers → (blocks : List ℕ) → Field → Progress
+wentOf m blocks l =
+    pick (eqb (l .next) 0) (Refused noInstruction)
+    (pick (ltb (l .value) (length blocks)) (Next (withNext m (getD blocks (l .value) 0))) (Refused noInstruction))
+
+unfoldable pub jumpedOf : Registers → (image blocks : List ℕ) → (at : ℕ) → Progress
+jumpedOf m s blocks at = wentOf m blocks (fieldAt s at)
+
+unfoldable pub keyOf : Found → Found
+keyOf v = pick (ltb 4 (v .tag)) (found 0 wrongKinds) v
+
+-- the label of the first of n branches with this number, or the default
+unfoldable pub branchOf : (image : List ℕ) → (n bits at : ℕ) → Field
+branchOf s zero bits at = fieldAt s at
+branchOf s (suc n) bits at =
+    let number = fieldAt s at in
+    let label = fieldAt s (number .next) in
+    pick (eqb (number .value) bits) label (branchOf s n bits (label .next))
+
+unfoldable pub switchedOf : Registers → (image blocks vars : List ℕ) → (at : ℕ) → Progress
+switchedOf m s blocks vars at =
+    let examinee = operandAt s at in
+    let count = fieldAt s (examinee .next) in
+    let v = keyOf (evaluated vars examinee) in
+    pick (eqb (v .tag) 0) (Refused (v .bits)) (wentOf m blocks (branchOf s (count .value) (v .bits) (count .next)))

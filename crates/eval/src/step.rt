@@ -1,0 +1,109 @@
+// One instruction: its fields are read again at its place, and its parts done in order. The registers that an instruction
+// is given have the next place already; a refusal leaves every table as it stood.
+ghost use mathlib.Core.Path.{_≡_};
+ghost use Rattle.memory.specs.Tables.{both};
+ghost use Rattle.eval.specs.Code.{finishedOf, assignedOf, wentOf, jumpedOf, keyOf, branchOf, switchedOf};
+use crate::field::Field;
+use crate::field::read_field;
+use crate::field::read_operand;
+use crate::variables::Found;
+use crate::variables::evaluate;
+use crate::variables::set_variable;
+use memory::Registers;
+use value::refusal::NO_INSTRUCTION;
+use value::refusal::WRONG_KINDS;
+
+// The registers after a step; or after the last Return, with its value, tag 0 for none.
+pub enum Progress {
+    Next(Registers),
+    Ended(Registers, Found),
+    Refused(u64),
+}
+
+// A result goes to a variable, or is refused.
+pub fn finish(m: Registers, vars: &mut [u64], to: u64, r: Found) -> Progress
+    ensures { λ a. ⌜ both a (now (vars .exit)) ≡ finishedOf m (now (vars .entry)) to r ⌝ }
+{
+    if r.tag == 0 {
+        return Progress::Refused(r.bits);
+    }
+    set_variable(vars, to as usize, r);
+    Progress::Next(m)
+}
+
+// Assign: to, operand, type; the declared kind is ignored.
+pub fn assign(m: Registers, image: &[u8], at: usize, vars: &mut [u64]) -> Progress
+    ensures { λ a. ⌜ both a (now (vars .exit)) ≡ assignedOf m (now (image .entry)) (now (vars .entry)) at ⌝ }
+{
+    let to = read_field(image, at);
+    let from = read_operand(image, to.next);
+    let v = evaluate(vars, from);
+    finish(m, vars, to.value, v)
+}
+
+// On to a label's place.
+pub fn go(m: Registers, blocks: &[u64], label: Field) -> Progress
+    ensures { λ r. ⌜ r ≡ wentOf m (now (blocks .entry)) label ⌝ }
+{
+    if label.next == 0 {
+        return Progress::Refused(NO_INSTRUCTION);
+    }
+    let k = label.value as usize;
+    if k < blocks.len() {
+        let mut n = m;
+        n.next = blocks[k] as usize;
+        return Progress::Next(n);
+    }
+    Progress::Refused(NO_INSTRUCTION)
+}
+
+// Jump: label.
+pub fn jump(m: Registers, image: &[u8], at: usize, blocks: &[u64]) -> Progress
+    ensures { λ r. ⌜ r ≡ jumpedOf m (now (image .entry)) (now (blocks .entry)) at ⌝ }
+{
+    go(m, blocks, read_field(image, at))
+}
+
+// What Switch takes: Bool, U8, U16, U32.
+pub fn key(v: Found) -> Found
+    ensures { λ r. ⌜ r ≡ keyOf v ⌝ }
+{
+    if 4 < v.tag {
+        return Found {
+            tag: 0,
+            bits: WRONG_KINDS,
+        };
+    }
+    v
+}
+
+// The label of the first of `count` branches with this number, or the default.
+pub fn branch(image: &[u8], start: usize, count: u64, bits: u64) -> Field
+    ensures { λ r. ⌜ r ≡ branchOf (now (image .entry)) count bits start ⌝ }
+{
+    let mut at = start;
+    let mut left = count;
+    while 0 < left {
+        let number = read_field(image, at);
+        let label = read_field(image, number.next);
+        if number.value == bits {
+            return label;
+        }
+        at = label.next;
+        left -= 1;
+    }
+    read_field(image, at)
+}
+
+// Switch: operand, count, pairs of number and label, default label.
+pub fn switch(m: Registers, image: &[u8], at: usize, blocks: &[u64], vars: &[u64]) -> Progress
+    ensures { λ r. ⌜ r ≡ switchedOf m (now (image .entry)) (now (blocks .entry)) (now (vars .entry)) at ⌝ }
+{
+    let examinee = read_operand(image, at);
+    let count = read_field(image, examinee.next);
+    let v = key(evaluate(vars, examinee));
+    if v.tag == 0 {
+        return Progress::Refused(v.bits);
+    }
+    go(m, blocks, branch(image, count.next, count.value, v.bits))
+}
