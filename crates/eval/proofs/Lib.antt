@@ -16,3 +16,4 @@ pub mod Numbers
 pub mod Promises
 pub mod Decoded
 pub mod Laws
+pub mod Computed

@@ -7,7 +7,8 @@ use Rattle.value.specs.Refusal.{noInstruction, wrongKinds}
 use Rattle.value.specs.Answer.{pick}
 use Rattle.memory.specs.Tables.{Both, both, registers}
 use Rattle.memory.specs.declared.Registers.{Registers}
-use Rattle.eval.specs.Decode.{fieldAt, operandAt}
+use Rattle.eval.specs.Decode.{field, fieldAt, operandAt}
+use Rattle.eval.specs.Compute.{foundOf, binaryOf}
 use Rattle.eval.specs.Variables.{found, setVariable, evaluated}
 use Rattle.eval.specs.declared.field.Field.{Field}
 use Rattle.eval.specs.declared.variables.Found.{Found}
@@ -52,3 +53,15 @@ switchedOf m s blocks vars at =
     let count = fieldAt s (examinee .next) in
     let v = keyOf (evaluated vars examinee) in
     pick (eqb (v .tag) 0) (Refused (v .bits)) (wentOf m blocks (branchOf s (count .value) (v .bits) (count .next)))
+
+-- "to, comparison .., two operands", "to, two operands", "to, signed flag, two operands"
+unfoldable pub middleOf : (opcode : ℕ) → (image : List ℕ) → (at : ℕ) → Field
+middleOf n s at = pick (ltb n 8) (fieldAt s at) (pick (eqb n 11) (fieldAt s at) (pick (eqb n 12) (fieldAt s at) (field 0 at)))
+
+unfoldable pub combinedOf : Registers → (opcode : ℕ) → (image vars : List ℕ) → (at : ℕ) → Both Progress
+combinedOf m n s vars at =
+    let to = fieldAt s at in
+    let how = middleOf n s (to .next) in
+    let left = operandAt s (how .next) in
+    let right = operandAt s (left .next) in
+    finishedOf m vars (to .value) (foundOf (binaryOf n (how .value) (evaluated vars left) (evaluated vars right)))

@@ -8,6 +8,7 @@ pub mod Count
 pub mod Cases
 pub mod Variables
 pub mod Decode
+pub mod Compute
 pub mod Code
 pub mod History
 pub mod Recalled

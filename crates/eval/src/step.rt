@@ -2,7 +2,8 @@
 // is given have the next place already; a refusal leaves every table as it stood.
 ghost use mathlib.Core.Path.{_≡_};
 ghost use Rattle.memory.specs.Tables.{both};
-ghost use Rattle.eval.specs.Code.{finishedOf, assignedOf, wentOf, jumpedOf, keyOf, branchOf, switchedOf};
+ghost use Rattle.eval.specs.Code.{finishedOf, assignedOf, wentOf, jumpedOf, keyOf, branchOf, switchedOf, middleOf, combinedOf};
+use crate::compute::binary;
 use crate::field::Field;
 use crate::field::read_field;
 use crate::field::read_operand;
@@ -106,4 +107,34 @@ pub fn switch(m: Registers, image: &[u8], at: usize, blocks: &[u64], vars: &[u64
         return Progress::Refused(v.bits);
     }
     go(m, blocks, branch(image, count.next, count.value, v.bits))
+}
+
+// The field between `to` and the operands of opcodes 6 to 13: a comparison's number, or a signed flag, where there is one.
+pub fn middle(opcode: u64, image: &[u8], at: usize) -> Field
+    ensures { λ r. ⌜ r ≡ middleOf opcode (now (image .entry)) at ⌝ }
+{
+    if opcode < 8 {
+        return read_field(image, at);
+    }
+    if opcode == 11 {
+        return read_field(image, at);
+    }
+    if opcode == 12 {
+        return read_field(image, at);
+    }
+    Field { value: 0, next: at }
+}
+
+// Opcodes 6 to 13: to, two operands; the signed flag of Div and Mod is ignored.
+pub fn combine(m: Registers, opcode: u64, image: &[u8], at: usize, vars: &mut [u64]) -> Progress
+    ensures { λ a. ⌜ both a (now (vars .exit)) ≡ combinedOf m opcode (now (image .entry)) (now (vars .entry)) at ⌝ }
+{
+    let to = read_field(image, at);
+    let how = middle(opcode, image, to.next);
+    let left = read_operand(image, how.next);
+    let right = read_operand(image, left.next);
+    let x = evaluate(vars, left);
+    let y = evaluate(vars, right);
+    let r = binary(opcode, how.value, x, y);
+    finish(m, vars, to.value, r)
 }
