@@ -1,0 +1,37 @@
+-- `line::write_value` meets its contract: each piece is put after the one before it.
+use borrow.Author.Needs.{needs}
+use Rattle.answers.proofs.line.write_value.Statement.{statement}
+use Rattle.answers.proofs.line.write_value.Tie as tie
+
+slice-aggregate-write-bytes : tie.Need-slice-aggregate-write-bytes
+slice-aggregate-write-bytes c = search needs
+
+write-bytes-requires : tie.Need-write-bytes-requires
+write-bytes-requires c κs = search needs
+
+write-kind-requires : tie.Need-write-kind-requires
+write-kind-requires c κs = search needs
+
+slice-aggregate-write-labelled : tie.Need-slice-aggregate-write-labelled
+slice-aggregate-write-labelled c = search needs
+
+write-labelled-requires : tie.Need-write-labelled-requires
+write-labelled-requires c κs = search needs
+
+same-length : tie.Need-same-length
+same-length c = search needs
+
+returns : tie.Need-returns
+returns c = cc
+
+pub write-value-spec : {M : Type 1} → statement M
+write-value-spec =
+    tie.close
+    (tie.spec
+    slice-aggregate-write-bytes
+    write-bytes-requires
+    write-kind-requires
+    slice-aggregate-write-labelled
+    write-labelled-requires
+    same-length
+    returns)
