@@ -7,13 +7,13 @@ use lib.Pow.{pow-mono}
 use native.Mathlib.Omega.{arith}
 use borrow.Author.Tests.{lt-ltb, le-ltb, eq-eqb, ne-eqb, not-true, not-false}
 use lib.Dec as D
-use lib.Dec.{ltb, leb, eqb}
+use lib.Dec.{leb}
 use mir.Syntax.{Width, w64}
 use mir.Val.{SFits, hbits, bits, toZ, ofZ}
 use mir.ValLaws.{toZ-ofZ}
 use lib.IntN.{ℤ, pos, negsuc, _-ℤ_}
 use lib.Signed.{ltZ}
-use Rattle.value.specs.Answer.{Answer, ok, refused, need, pick}
+use Rattle.value.specs.Answer.{Answer, ok, need, pick}
 use Rattle.value.specs.Refusal.{wrongKinds}
 use Rattle.value.specs.Value.{Value, Kind, value, width, bitsOf, same, tag, family, isUnsigned, isSigned, isFloat, hasEquality, integer, real, naturals, integers, reals, equality, unsignedOrder, signedOrder, floatOrder, passes, truth, less, equal, greater, bool, switches, switchOn, notted, compareInts, compareFloats}
 use Rattle.value.specs.Value as Believed
@@ -24,15 +24,15 @@ use Rattle.value.specs.Compare.{orderOf, asUnsigned, asSigned, intCmpOf,
 use Rattle.value.specs.declared.IrValue.{IrValue}
 use Rattle.value.specs.declared.IrValue.the-variants as Ir
 use Rattle.value.specs.declared.Computed as C
-use Rattle.value.specs.declared.Order as O
+use Rattle.value.specs.declared.family.Order as O
 use Rattle.value.specs.declared.IntCmp as I
 use Rattle.value.specs.declared.FloatCmp as F
 use Rattle.value.specs.declared.IntComparison as Ic
 use Rattle.value.specs.declared.FloatComparison as Fc
 use Rattle.value.specs.declared.Switched as W
 use Rattle.value.specs.declared.Truth as B
-use Rattle.value.specs.declared.AsU64 as U
-use Rattle.value.specs.declared.AsI64 as S
+use Rattle.value.specs.declared.family.AsU64 as U
+use Rattle.value.specs.declared.family.AsI64 as S
 use Rattle.value.proofs.Roundtrip.{signed-back}
 use Rattle.value.proofs.Tags.{tags-equal}
 

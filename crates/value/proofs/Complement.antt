@@ -1,14 +1,14 @@
 -- Two's complement at every width: the definition's reading of bits is the machine's, and `-1 - x` turns each half of the integers into the other.
 use mathlib.Core.Path.{_≡_, refl, sym, ap, _∙_, subst}
 use mathlib.Core.Bool.{Bool, true, false}
-use Prim.Native.Nat.{ℕ, zero, suc, _+_, _-_, _*_, _<_, _≤_, _^_}
+use Prim.Native.Nat.{ℕ, zero, suc, _-_, _<_, _≤_, _^_}
 use native.Mathlib.Omega.{arith}
 use borrow.Author.Tests.{lt-ltb, le-ltb, le-leb, lt-leb, ltb-true, ltb-false}
 use lib.Dec.{T, ltb, leb}
-use lib.IntN.{ℤ, pos, negsuc, natAbs, subℕ, _-ℤ_}
+use lib.IntN.{ℤ, pos, negsuc, natAbs, _-ℤ_}
 use lib.Signed.{mag, ltZ, nonNeg}
-use mir.Syntax.{Width, w8, w16, w32, w64}
-use mir.Val.{Fits, SFits, bits, hbits, toZ, ofZ, sel}
+use mir.Syntax.{Width}
+use mir.Val.{Fits, SFits, bits, hbits, toZ, ofZ}
 use mir.ValLaws.{toZ-ofZ, toZ-fits, toZ-pos, pow-bits, half-full}
 use Rattle.value.specs.Answer.{pick}
 use Rattle.value.specs.Value.{Kind, width, bitsOf}

@@ -2,13 +2,12 @@
 use mathlib.Core.Path.{_≡_, refl, sym, ap, _∙_, subst}
 use mathlib.Core.List.{List, [], _∷_, _++_}
 use Prim.Native.Nat.{ℕ, zero, suc, _+_, _-_, _*_, _/_, _%_, _<_, _≤_, _^_}
-use native.Mathlib.Nat.{zero-add, div-lt-iff-lt-mul, pow-suc, lt-of-lt-of-le}
+use native.Mathlib.Nat.{zero-add, lt-of-lt-of-le}
 use lib.Pow.{pow-add, pow-mono, pow-pos}
 use native.Mathlib.Omega.{arith}
 use lib.ListN.{length, take, drop, set, getD, length-append, take-append-drop}
 use lib.Seq.{sets, sets-eq, drop-cons, take-at, length-take-le}
 use mathlib.Core.Bool.{Bool, true, false, not, _&&_}
-use mathlib.Core.Option.{some}
 use borrow.Author.Tests.{le-leb, lt-leb, lt-ltb, le-ltb, ltb-true, leb-true}
 use lib.Dec.{leb, ltb}
 use Rattle.value.specs.Answer.{pick, need, ok}

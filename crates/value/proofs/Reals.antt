@@ -17,7 +17,7 @@ use Rattle.value.specs.Divide.{count}
 use Rattle.value.specs.Value.{Value, Real, nan, infinite, finite, signOf, fields, real, reals, integers, naturals, passes, family, isFloat, formatOf, Order, less, equal, greater, unordered}
 use Rattle.value.specs.Value as Believed
 use Rattle.value.specs.Orders.{ordered, floating, wideOf}
-use Rattle.value.specs.declared.Order.the-variants as O
+use Rattle.value.specs.declared.family.Order.the-variants as O
 use Rattle.value.proofs.Fields as Fields
 
 -- a machine's float and the number that it is

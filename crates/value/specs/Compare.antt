@@ -11,10 +11,10 @@ use Rattle.value.specs.declared.IntCmp as I
 use Rattle.value.specs.declared.FloatCmp as F
 use Rattle.value.specs.declared.IntComparison as Ic
 use Rattle.value.specs.declared.FloatComparison as Fc
-use Rattle.value.specs.declared.Order as O
-use Rattle.value.specs.declared.Test as T
-use Rattle.value.specs.declared.AsU64 as U
-use Rattle.value.specs.declared.AsI64 as S
+use Rattle.value.specs.declared.family.Order as O
+use Rattle.value.specs.declared.family.Test as T
+use Rattle.value.specs.declared.family.AsU64 as U
+use Rattle.value.specs.declared.family.AsI64 as S
 use Rattle.value.specs.declared.Switched as W
 use Rattle.value.specs.declared.Truth as B
 

@@ -4,8 +4,8 @@ use lib.Ieee.{ofBits}
 use Rattle.value.specs.Answer.{pick}
 use Rattle.value.specs.Value.{Value, Real, real, family, isFloat, formatOf}
 use Rattle.value.specs.Value as Believed
-use Rattle.value.specs.declared.Order.{Order}
-use Rattle.value.specs.declared.Order.the-variants as O
+use Rattle.value.specs.declared.family.Order.{Order}
+use Rattle.value.specs.declared.family.Order.the-variants as O
 
 -- the code's names for what one number is to another
 unfoldable pub ordered : Believed.Order → Order

@@ -4,7 +4,7 @@ ghost use mathlib.Core.List.{_++_};
 ghost use Prim.Native.Nat.{_≤_};
 ghost use lib.Dec.{leb};
 ghost use lib.ListN.{length, take, drop};
-ghost use Rattle.value.specs.Value.{kindOf, size, bytesOf, leBytes, leNumber};
+ghost use Rattle.value.specs.Value.{size, bytesOf, leBytes, leNumber};
 ghost use Rattle.value.specs.Ir.{valueOf, typeOf, written, loaded};
 use crate::IrType;
 use crate::IrValue;

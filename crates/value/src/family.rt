@@ -5,11 +5,36 @@ ghost use Rattle.value.specs.Value as Believed;
 ghost use Rattle.value.specs.Ir.{valueOf};
 ghost use Rattle.value.specs.Orders.{ordered};
 ghost use Rattle.value.specs.Compare.{orderOf, testOf, asUnsigned, asSigned};
-use crate::AsI64;
-use crate::AsU64;
 use crate::IrValue;
-use crate::Order;
-use crate::Test;
+
+// What one number is to another.
+pub enum Order {
+    Less,
+    Equal,
+    Greater,
+    Unordered,
+}
+
+// A test of an order.
+pub enum Test {
+    Eq,
+    Ne,
+    Lt,
+    Le,
+    Gt,
+    Ge,
+}
+
+// The number of a value of the unsigned family, or of the signed.
+pub enum AsU64 {
+    Is(u64),
+    Other,
+}
+
+pub enum AsI64 {
+    Is(i64),
+    Other,
+}
 
 pub fn passes(test: Test, order: Order) -> bool
     ensures { λ r. ⌜ r ≡ Believed.passes (testOf test) (orderOf order) ⌝ }

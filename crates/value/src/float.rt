@@ -9,8 +9,8 @@ ghost use Rattle.value.specs.Value.{divideFloats, reals};
 use crate::Computed;
 use crate::Double;
 use crate::IrValue;
-use crate::Order;
 use crate::Single;
+use crate::family::Order;
 use crate::refusal::WRONG_KINDS;
 
 impl Single {

@@ -1,12 +1,12 @@
 // Values and types of the IR, from lir/value.rs: fourteen kinds of value, twelve types, what the instructions that only
 // compute do with them, and their bytes.
-pub mod bits;
-pub mod bytes;
-pub mod compare;
+mod bits;
+mod bytes;
+mod compare;
 mod family;
-pub mod float;
-pub mod integer;
-pub mod kind;
+mod float;
+mod integer;
+mod kind;
 pub mod refusal;
 mod signed;
 
@@ -79,24 +79,6 @@ pub enum Loaded {
     Short,
 }
 
-// What one number is to another.
-pub enum Order {
-    Less,
-    Equal,
-    Greater,
-    Unordered,
-}
-
-// A test of an order.
-pub enum Test {
-    Eq,
-    Ne,
-    Lt,
-    Le,
-    Gt,
-    Ge,
-}
-
 // The comparisons of IntCmp and of FloatCmp, in the order of their numbers.
 pub enum IntCmp {
     Eq,
@@ -129,17 +111,6 @@ pub enum IntComparison {
 pub enum FloatComparison {
     Is(FloatCmp),
     Nothing,
-}
-
-// The number of a value of the unsigned family, or of the signed.
-pub enum AsU64 {
-    Is(u64),
-    Other,
-}
-
-pub enum AsI64 {
-    Is(i64),
-    Other,
 }
 
 // What Switch examines, or a refusal.

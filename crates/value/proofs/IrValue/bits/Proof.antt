@@ -8,12 +8,6 @@ use Rattle.value.specs.Ir.{valueOf}
 use Rattle.value.proofs.Roundtrip.{told, byte-of}
 use Rattle.value.proofs.IrValue.bits.Statement.{statement}
 use Rattle.value.proofs.IrValue.bits.Tie as tie
-use Rattle.value.proofs.Double.to_bits.Reads as Double-to-bits-reads
-use Rattle.value.proofs.Single.to_bits.Reads as Single-to-bits-reads
-use Rattle.value.proofs.signed.bits16.Reads as bits16-reads
-use Rattle.value.proofs.signed.bits32.Reads as bits32-reads
-use Rattle.value.proofs.signed.bits64.Reads as bits64-reads
-use Rattle.value.proofs.signed.bits8.Reads as bits8-reads
 
 returns : tie.Need-returns
 unfolding valueOf

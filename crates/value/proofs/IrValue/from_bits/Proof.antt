@@ -1,5 +1,5 @@
 -- `from_bits`: a value is made where the bits fit.
-use mathlib.Core.Path.{_≡_, sym, _∙_}
+use mathlib.Core.Path.{sym, _∙_}
 use borrow.Author.Needs.{needs}
 use Rattle.value.proofs.Roundtrip.{not-made}
 use Rattle.value.proofs.IrValue.from_bits.Statement.{statement}

@@ -1,7 +1,6 @@
 -- `fits`: by the tag, the bits are tested against their kind's.
-use mathlib.Core.Path.{_≡_, sym, ap, _∙_}
+use mathlib.Core.Path.{sym, ap, _∙_}
 use mathlib.Core.Logic.{⊎-elim, inl, inr}
-use Prim.Native.Nat.{ℕ}
 use borrow.Author.Needs.{needs}
 use borrow.Author.Tests.{lt-ltb}
 use Rattle.value.specs.Value.{bool, u8, u16, u32, u64, i8, i16, i32, i64, f32, f64, char, asn, pointer, tag}

@@ -1,5 +1,4 @@
 -- `is_scalar`: the two ranges, one after the other.
-use native.Mathlib.Omega.{arith}
 use borrow.Author.Tests.{le-leb, lt-leb}
 use Rattle.value.specs.Value.{isScalar}
 use Rattle.value.proofs.bits.is_scalar.Statement.{statement}

@@ -1,6 +1,5 @@
 -- `make`: by the tag, the bits fit their type, and the value is the kind's. A number that is no tag holds nothing.
-use mathlib.Core.Path.{_≡_, sym, ap, _∙_}
-use Prim.Native.Nat.{ℕ}
+use mathlib.Core.Path.{sym, ap, _∙_}
 use borrow.Author.Needs.{needs}
 use borrow.Author.Tests.{ltb-true}
 use mir.Syntax.{w8, w16, w32, w64}

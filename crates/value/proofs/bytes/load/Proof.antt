@@ -4,7 +4,7 @@ use Prim.Native.Nat.{ℕ, suc, _+_, _-_, _*_, _<_, _^_, _≤_}
 use native.Mathlib.Omega.{arith}
 use native.Mathlib.Nat.{sub-zero}
 use borrow.Author.Needs.{needs}
-use lib.ListN.{take, drop, getD}
+use lib.ListN.{take, drop}
 use denote.Ref.{now}
 use Rattle.value.specs.Value.{leNumber}
 use Rattle.value.proofs.LowFirst.{number-cons, grow, small}

@@ -9,7 +9,7 @@ use mir.ValLaws.{toZ-ofZ}
 use Rattle.value.specs.Value.{family, isSigned, integer, size, i8, i16, i32, i64}
 use Rattle.value.specs.Ir.{valueOf}
 use Rattle.value.specs.Compare.{asSigned}
-use Rattle.value.specs.declared.AsI64.the-variants.{Is}
+use Rattle.value.specs.declared.family.AsI64.the-variants.{Is}
 use Rattle.value.proofs.Leftover.{left-over, rest}
 use Rattle.value.proofs.Roundtrip.{signed-back}
 use Rattle.value.proofs.Comparing.{told-signed, widens, widened}
