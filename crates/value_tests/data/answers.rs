@@ -1,5 +1,5 @@
 // Prints what value_tests must print, by Rust's own operators: `stdout` is this program's output.
-//   rustc --edition 2021 -C overflow-checks=on -o /tmp/answers data/answers.rs && /tmp/answers data/floats.txt > stdout
+//   in crates/value_tests: rustc --edition 2021 -C overflow-checks=on -o ../../target/answers data/answers.rs, then ../../target/answers data/floats.txt > stdout
 // The operators themselves run, and a panic is the refusal that stands for it: 24 for a divisor of zero, 23 for an overflow.
 
 use std::fmt::Write;
