@@ -2,7 +2,7 @@
 use Prim.Native.Nat.{ℕ}
 use native.Mathlib.Omega.{arith}
 use mathlib.Core.Bool.{Bool, true, false}
-use mathlib.Core.Path.{_≡_, refl, sym, ap, _∙_}
+use mathlib.Core.Path.{_≡_, refl, sym, ap, _∙_, subst}
 use mathlib.Core.Option.{Option, none, some}
 use lib.Dec.{T, eqb}
 use borrow.Author.Tests.{eq-eqb, ne-eqb}
@@ -20,9 +20,9 @@ use Rattle.value.specs.declared.IntComparison.the-variants as Ic
 use Rattle.value.specs.declared.FloatComparison.the-variants as Fc
 use Rattle.value.proofs.Roundtrip.{bits-back}
 use Rattle.eval.specs.Variables.{found}
-use Rattle.eval.specs.Compute.{stored, answerOf, foundOf, foundAs, comparedInts, comparedFloats, operated, withSecond, binaryOf}
+use Rattle.eval.specs.Compute.{stored, answerOf, foundOf, foundAs, comparedInts, comparedFloats, operated, withSecond, binaryOf, altered, unaryOf}
 use Rattle.eval.specs.declared.variables.Found.{Found}
-use Rattle.eval.proofs.Values.{Keeps, kept, no-answer, Good, arithmetic-good, divided-good, compared-ints-good, compared-floats-good}
+use Rattle.eval.proofs.Values.{Keeps, kept, no-answer, Good, arithmetic-good, divided-good, compared-ints-good, compared-floats-good, notted-good, negated-good}
 
 is-true : (b : Bool) → T b → b ≡ true
 is-true true t = refl
@@ -172,3 +172,36 @@ module _ (opcode how : ℕ) where
   pub first-unsound : (x y : Found) → (x .tag ≡ 0 → ⊥) → made (kindAt (x .tag)) (x .bits) ≡ M.Nothing → found 0 notSound ≡ foundOf (binaryOf opcode how x y)
   unfolding binaryOf _>>=_
   first-unsound x y n e = ap (λ (a : Answer Value). foundOf (a >>= λ v. withSecond opcode how v y)) (sym (unsound-first x n e))
+
+-- ---- one operand
+
+good-at : (k : Kind) (b : ℕ) (h : Bool) → holds k b ≡ h → (v : IrValue) → pick h (M.Value (irOf k b)) M.Nothing ≡ M.Value v → Good (valueOf v)
+good-at k b true h v e =
+    let same : irOf k b ≡ v = cc in
+    subst (λ (w : Value). Good w) (sym (bits-back k b h) ∙ ap valueOf same) (rw h tt)
+good-at k b false h v e = absurd (let z : _≡_ {A = ℕ} 0 1 = cc in omega arith)
+
+made-good : (o : Option Kind) (b : ℕ) (v : IrValue) → made o b ≡ M.Value v → Good (valueOf v)
+unfolding made
+made-good none b v e = absurd (let z : _≡_ {A = ℕ} 0 1 = cc in omega arith)
+made-good (some k) b v e = good-at k b (holds k b) refl v e
+
+altered-good : (n : ℕ) (v : Value) → Good v → Keeps Good (altered n v)
+unfolding altered
+altered-good n v g = keeps-pick (eqb n 14) (notted-good v g) (keeps-pick (eqb n 15) (negated-good v) no-answer)
+
+module _ (opcode : ℕ) (x : Found) where
+  pub alone-refused : x .tag ≡ 0 → x ≡ foundOf (unaryOf opcode x)
+  unfolding unaryOf _>>=_
+  alone-refused e = ap (λ (t : ℕ). found t (x .bits)) e ∙ ap (λ (a : Answer Value). foundOf (a >>= λ v. altered opcode v)) (sym (refused-first x e))
+
+  pub alone-value : (a : IrValue) (r : Found) → (x .tag ≡ 0 → ⊥) → made (kindAt (x .tag)) (x .bits) ≡ M.Value a → r ≡ foundAs (computed (altered opcode (valueOf a)))
+      → r ≡ foundOf (unaryOf opcode x)
+  unfolding unaryOf _>>=_
+  alone-value a r n e d =
+      d ∙ found-back (altered opcode (valueOf a)) (altered-good opcode (valueOf a) (made-good (kindAt (x .tag)) (x .bits) a e))
+      ∙ ap (λ (b : Answer Value). foundOf (b >>= λ v. altered opcode v)) (sym (value-first x n a e))
+
+  pub alone-unsound : (x .tag ≡ 0 → ⊥) → made (kindAt (x .tag)) (x .bits) ≡ M.Nothing → found 0 notSound ≡ foundOf (unaryOf opcode x)
+  unfolding unaryOf _>>=_
+  alone-unsound n e = ap (λ (a : Answer Value). foundOf (a >>= λ v. altered opcode v)) (sym (unsound-first x n e))

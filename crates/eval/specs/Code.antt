@@ -8,7 +8,7 @@ use Rattle.value.specs.Answer.{pick}
 use Rattle.memory.specs.Tables.{Both, both, registers}
 use Rattle.memory.specs.declared.Registers.{Registers}
 use Rattle.eval.specs.Decode.{field, fieldAt, operandAt}
-use Rattle.eval.specs.Compute.{foundOf, binaryOf}
+use Rattle.eval.specs.Compute.{foundOf, binaryOf, unaryOf}
 use Rattle.eval.specs.Variables.{found, setVariable, evaluated}
 use Rattle.eval.specs.declared.field.Field.{Field}
 use Rattle.eval.specs.declared.variables.Found.{Found}
@@ -65,3 +65,8 @@ combinedOf m n s vars at =
     let left = operandAt s (how .next) in
     let right = operandAt s (left .next) in
     finishedOf m vars (to .value) (foundOf (binaryOf n (how .value) (evaluated vars left) (evaluated vars right)))
+
+unfoldable pub changedOf : Registers → (opcode : ℕ) → (image vars : List ℕ) → (at : ℕ) → Both Progress
+changedOf m n s vars at =
+    let to = fieldAt s at in
+    finishedOf m vars (to .value) (foundOf (unaryOf n (evaluated vars (operandAt s (to .next)))))

@@ -4,7 +4,7 @@ use mathlib.Core.Option.{Option, none, some}
 use lib.Dec.{eqb}
 use Rattle.value.specs.Refusal.{notSound, noInstruction}
 use Rattle.value.specs.Answer.{Answer, ok, refused, need, pick, _>>=_}
-use Rattle.value.specs.Value.{Value, value, Kind, tag, IntCmp, FloatCmp, compareInts, compareFloats, add, sub, mul, div, mod′, arithmetic, divideFloats}
+use Rattle.value.specs.Value.{Value, value, Kind, tag, IntCmp, FloatCmp, compareInts, compareFloats, add, sub, mul, div, mod′, arithmetic, divideFloats, notted, negated}
 use Rattle.value.specs.Tags.{kindAt, holds, intCmpAt, floatCmpAt}
 use Rattle.value.specs.Ir.{valueOf}
 use Rattle.value.specs.declared.Computed.{Computed}
@@ -56,3 +56,10 @@ withSecond n how v y = answerOf y >>= λ w. operated n how v w
 
 unfoldable pub binaryOf : (opcode how : ℕ) → Found → Found → Answer Value
 binaryOf n how x y = answerOf x >>= λ v. withSecond n how v y
+
+-- "14 Not, 15 Negate"
+unfoldable pub altered : (opcode : ℕ) → Value → Answer Value
+altered n v = pick (eqb n 14) (notted v) (pick (eqb n 15) (negated v) (refused noInstruction))
+
+unfoldable pub unaryOf : (opcode : ℕ) → Found → Answer Value
+unaryOf n x = answerOf x >>= λ v. altered n v

@@ -2,7 +2,7 @@
 ghost use mathlib.Core.Path.{_≡_};
 ghost use Rattle.value.specs.Tags.{intCmpAt, floatCmpAt};
 ghost use Rattle.value.specs.Ir.{valueOf, computed};
-ghost use Rattle.eval.specs.Compute.{foundOf, foundAs, comparedInts, comparedFloats, operated, withSecond, binaryOf};
+ghost use Rattle.eval.specs.Compute.{foundOf, foundAs, comparedInts, comparedFloats, operated, withSecond, binaryOf, altered, unaryOf};
 use crate::variables::Found;
 use value::Computed;
 use value::FloatCmp;
@@ -89,6 +89,33 @@ pub fn binary(opcode: u64, how: u64, x: Found, y: Found) -> Found
     }
     match IrValue::from_bits(x.tag, x.bits) {
         Made::Value(a) => with_second(opcode, how, a, y),
+        Made::Nothing => Found {
+            tag: 0,
+            bits: NOT_SOUND,
+        },
+    }
+}
+
+// Opcodes 14 and 15: Not, which leaves its Bool as it is, and Negate.
+pub fn alter(opcode: u64, a: IrValue) -> Computed
+    ensures { λ r. ⌜ r ≡ computed (altered opcode (valueOf a)) ⌝ }
+{
+    match opcode {
+        14 => a.not(),
+        15 => a.negate(),
+        _ => Computed::Refused(NO_INSTRUCTION),
+    }
+}
+
+// One operand's value.
+pub fn unary(opcode: u64, x: Found) -> Found
+    ensures { λ r. ⌜ r ≡ foundOf (unaryOf opcode x) ⌝ }
+{
+    if x.tag == 0 {
+        return x;
+    }
+    match IrValue::from_bits(x.tag, x.bits) {
+        Made::Value(a) => found(alter(opcode, a)),
         Made::Nothing => Found {
             tag: 0,
             bits: NOT_SOUND,

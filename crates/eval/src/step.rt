@@ -2,8 +2,9 @@
 // is given have the next place already; a refusal leaves every table as it stood.
 ghost use mathlib.Core.Path.{_≡_};
 ghost use Rattle.memory.specs.Tables.{both};
-ghost use Rattle.eval.specs.Code.{finishedOf, assignedOf, wentOf, jumpedOf, keyOf, branchOf, switchedOf, middleOf, combinedOf};
+ghost use Rattle.eval.specs.Code.{finishedOf, assignedOf, wentOf, jumpedOf, keyOf, branchOf, switchedOf, middleOf, combinedOf, changedOf};
 use crate::compute::binary;
+use crate::compute::unary;
 use crate::field::Field;
 use crate::field::read_field;
 use crate::field::read_operand;
@@ -136,5 +137,16 @@ pub fn combine(m: Registers, opcode: u64, image: &[u8], at: usize, vars: &mut [u
     let x = evaluate(vars, left);
     let y = evaluate(vars, right);
     let r = binary(opcode, how.value, x, y);
+    finish(m, vars, to.value, r)
+}
+
+// Opcodes 14 and 15: to, operand.
+pub fn change(m: Registers, opcode: u64, image: &[u8], at: usize, vars: &mut [u64]) -> Progress
+    ensures { λ a. ⌜ both a (now (vars .exit)) ≡ changedOf m opcode (now (image .entry)) (now (vars .entry)) at ⌝ }
+{
+    let to = read_field(image, at);
+    let from = read_operand(image, to.next);
+    let x = evaluate(vars, from);
+    let r = unary(opcode, x);
     finish(m, vars, to.value, r)
 }
