@@ -1,0 +1,5 @@
+pub mod Takes
+pub mod Plain
+pub mod Loads
+pub mod Spells
+pub mod Writes

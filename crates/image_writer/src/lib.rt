@@ -1,0 +1,1 @@
+// The image writer: a program back to bytes.
