@@ -3,3 +3,7 @@ pub mod Plain
 pub mod Loads
 pub mod Spells
 pub mod Writes
+pub mod Stores
+pub mod Keeps
+pub mod Reaches
+pub mod Rewrites

@@ -19,7 +19,7 @@ use Rattle.image.specs.Program.{Program, Operand, literal, Slot, Branch, Declar
 use Rattle.image_writer.specs.Written.{listed, rawBytes, optionalBytes, flagNumber, intCmpNumber, floatCmpNumber, flagBytes, typeBytes, operandBytes, slotBytes, branchBytes, declaredBytes, instructionBytes, itemNumber, functionBytes, blockBytes, written}
 use Rattle.image_writer.specs.Limits.{Each, UpTo, IfAny, Flagged, IsByte, IsSize, IsU32, IsVariable, IsLabel, IsConstant, IsFunction, IsOperand, IsSlot, IsBranch, IsDeclared, IsInstruction, IsFunctionItem, countsOf, WithinLimits}
 use Rattle.image_writer.proofs.Takes.{Takes, each-append, seam, inside, then-takes, give-takes, same-bytes, map-takes, two-takes, three-takes, four-takes, five-takes, number-takes, such-takes, below-takes, upTo-takes, known-takes, tabled-takes, optional-takes, many-takes, list-takes, bytes-takes, within-takes}
-use Rattle.image_writer.proofs.Plain.{plain, loaded-plain}
+use Rattle.image_writer.proofs.Plain.{plain, plainParts, loaded-plain}
 
 -- ---- names that stand for a number
 
@@ -297,7 +297,7 @@ module _ {s : List ℕ} where
   constant-bytes left l c h m = bytes-takes left l c (m, h)
 
   plain-finishes : (P : Program) → WithinLimits P → Finishes s (plain s) (written P) P
-  unfolding plain written
+  unfolding plain plainParts written
   plain-finishes P h =
       let n = countsOf P in
       let small : Countable (countsOf P) = record { variables = omega (arith, h); constants = omega (arith, h); functions = omega (arith, h); blocks = omega (arith, h) } in

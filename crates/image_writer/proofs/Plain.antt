@@ -9,19 +9,24 @@ use Rattle.value.specs.Answer.{pick}
 use Rattle.value.specs.Refusal.{overLimit}
 use Rattle.image.specs.Parse.{Got, took, refused, Field, Placed, andThen, give, many, within, placed, _>>=_, _<$>_}
 use Rattle.image.specs.Fields.{atMost, listOf, bytes, atEnd}
-use Rattle.image.specs.Image.{header, function, constants, blocks, instruction, whole, image, programOf, loaded}
+use Rattle.image.specs.Image.{Counts, header, function, constants, blocks, instruction, whole, image, programOf, loaded}
 use Rattle.image.specs.Program.{Program}
 
 module _ (s : List ℕ) where
-  -- an image's fields, as its program
-  unfoldable pub plain : Field Program
-  plain = do
-    n ← header s
+  -- what follows the header, as the program
+  unfoldable pub plainParts : Counts → Field Program
+  plainParts n = do
     constants ← within length 8192 (n .constants) (bytes s)
     functions ← many (n .functions) (function s n)
     blocks ← within length 4096 (n .blocks) (λ left. listOf s left (instruction s n))
     end ← atEnd s
     give (record { variables = n .variables; constants = constants; functions = functions; blocks = blocks })
+
+  -- an image's fields, as its program
+  unfoldable pub plain : Field Program
+  plain = do
+    n ← header s
+    plainParts n
 
 -- ---- forgetting, field by field
 
@@ -93,7 +98,7 @@ module _ {A B : Type 0} (f : A → B) where
 
 module _ (s : List ℕ) where
   seen-whole : Seen programOf (whole s) (plain s)
-  unfolding whole plain constants blocks programOf andThen
+  unfolding whole plain plainParts constants blocks programOf andThen
   seen-whole =
       seen-then (λ n. n) programOf (header s) (header s) (seen-itself (header s)) _ _
       (λ n. seen-then (map (λ c. c .item)) programOf (constants s n) (within length 8192 (n .constants) (bytes s))

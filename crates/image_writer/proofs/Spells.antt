@@ -84,7 +84,7 @@ module _ {s : List ℕ} where
 
 -- ---- fields and f of their values, one after another to the right
 
-two-right : {A B Z : Type 0} (f : A → B → Z) (p : Field A) (q : Field B) (at : ℕ) → two f p q at ≡ (p >>= λ a. one (f a) q) at
+pub two-right : {A B Z : Type 0} (f : A → B → Z) (p : Field A) (q : Field B) (at : ℕ) → two f p q at ≡ (p >>= λ a. one (f a) q) at
 unfolding andThen
 two-right {A} {B} {Z} f p q at = by-got (p at)
   where
@@ -92,7 +92,7 @@ two-right {A} {B} {Z} f p q at = by-got (p at)
     by-got (took a n) = refl
     by-got (refused n r) = refl
 
-three-right : {A B C Z : Type 0} (f : A → B → C → Z) (p : Field A) (q : Field B) (r : Field C) (at : ℕ) → three f p q r at ≡ (p >>= λ a. two (f a) q r) at
+pub three-right : {A B C Z : Type 0} (f : A → B → C → Z) (p : Field A) (q : Field B) (r : Field C) (at : ℕ) → three f p q r at ≡ (p >>= λ a. two (f a) q r) at
 unfolding andThen
 three-right {A} {B} {C} {Z} f p q r at = by-got (p at)
   where
@@ -101,7 +101,7 @@ three-right {A} {B} {C} {Z} f p q r at = by-got (p at)
     by-got (took a n) = refl
     by-got (refused n k) = refl
 
-four-right : {A B C D Z : Type 0} (f : A → B → C → D → Z) (p : Field A) (q : Field B) (r : Field C) (t : Field D) (at : ℕ) → four f p q r t at ≡ (p >>= λ a. three (f a) q r t) at
+pub four-right : {A B C D Z : Type 0} (f : A → B → C → D → Z) (p : Field A) (q : Field B) (r : Field C) (t : Field D) (at : ℕ) → four f p q r t at ≡ (p >>= λ a. three (f a) q r t) at
 unfolding andThen
 four-right {A} {B} {C} {D} {Z} f p q r t at = by-got (p at)
   where
@@ -111,7 +111,7 @@ four-right {A} {B} {C} {D} {Z} f p q r t at = by-got (p at)
     by-got (took a n) = refl
     by-got (refused n k) = refl
 
-five-right : {A B C D E Z : Type 0} (f : A → B → C → D → E → Z) (p : Field A) (q : Field B) (r : Field C) (t : Field D) (u : Field E) (at : ℕ)
+pub five-right : {A B C D E Z : Type 0} (f : A → B → C → D → E → Z) (p : Field A) (q : Field B) (r : Field C) (t : Field D) (u : Field E) (at : ℕ)
     → five f p q r t u at ≡ (p >>= λ a. four (f a) q r t u) at
 unfolding andThen
 five-right {A} {B} {C} {D} {E} {Z} f p q r t u at = by-got (p at)
@@ -160,7 +160,7 @@ Every law [] = Unit
 Every law (none ∷ xs) = Every (λ k. law (suc k)) xs
 Every law (some a ∷ xs) = law 0 a × Every (λ k. law (suc k)) xs
 
-every-at : {A : Type 0} (law : ℕ → A → Type 0) (xs : List (Option A)) → Every law xs → (v : ℕ) (a : A) → getD xs v none ≡ some a → law v a
+pub every-at : {A : Type 0} (law : ℕ → A → Type 0) (xs : List (Option A)) → Every law xs → (v : ℕ) (a : A) → getD xs v none ≡ some a → law v a
 unfolding Every
 every-at law [] h zero a e = let z : _≡_ {A = ℕ} 0 1 = cc in absurd (omega arith)
 every-at law [] h (suc v) a e = let z : _≡_ {A = ℕ} 0 1 = cc in absurd (omega arith)
@@ -188,7 +188,7 @@ each-take ok (suc n) (x ∷ xs) h = (h .0, each-take ok n xs (h .1))
 
 -- ---- numbers
 
-meant-some : {A : Type 0} (o : Option A) (at m next : ℕ) (a : A) → meant o at m ≡ took a next → (o ≡ some a) × (m ≡ next)
+pub meant-some : {A : Type 0} (o : Option A) (at m next : ℕ) (a : A) → meant o at m ≡ took a next → (o ≡ some a) × (m ≡ next)
 meant-some none at m next a e = never e
 meant-some (some b) at m next a e = let same : b ≡ a = cc in let place : m ≡ next = cc in (ap some same, place)
 

@@ -18,7 +18,7 @@ use Rattle.image.specs.Program.{Program, Operand, literal, Item, Jump, Switch, 
 use Rattle.image_writer.specs.Written.{flagNumber, intCmpNumber, floatCmpNumber, flagBytes, intCmpBytes, floatCmpBytes, typeBytes, operandBytes, slotBytes, branchBytes, declaredBytes, instructionBytes, itemNumber, functionBytes, written}
 use Rattle.image_writer.specs.Limits.{Each, Flagged, IsByte, IsSize, IsU32, IsVariable, IsLabel, IsConstant, IsFunction, IsOperand, IsSlot, IsBranch, IsDeclared, IsInstruction, IsFunctionItem, countsOf, WithinLimits}
 use Rattle.image_writer.proofs.Spells.{Spells, AreBytes, Every, parts, picked, next-spells, last-spells, one-spells, two-spells, three-spells, four-spells, five-spells, number-spells, such-spells, below-spells, upTo-spells, known-spells, tabled-spells, optional-spells, many-spells, list-spells, bytes-spells, within-spells}
-use Rattle.image_writer.proofs.Plain.{plain, loaded-plain}
+use Rattle.image_writer.proofs.Plain.{plain, plainParts, loaded-plain}
 use Rattle.image_writer.proofs.Loads.{written-loads}
 
 module _ {s : List ℕ} (bs : AreBytes s) where
@@ -243,7 +243,7 @@ module _ {s : List ℕ} (bs : AreBytes s) where
   }
 
   plain-spells : Spells s [] (plain s) written (λ P. length (written P) ≤ 32768 → WithinLimits P)
-  unfolding plain written
+  unfolding plain plainParts written
   plain-spells =
       next-spells header-spells (λ n h. next-spells (within-spells bs IsByte (bytes-spells bs) 8192 (n .constants)) (λ constants i.
       next-spells (many-spells bs (function-spells bs n) (n .functions)) (λ functions j.
@@ -270,7 +270,7 @@ same-place {A} {a} {b} {m} {n} e = cc
 
 -- an image that is taken is read to its end
 at-its-end : (s : List ℕ) (at end : ℕ) (P : Program) → plain s at ≡ took P end → length s ≤ end
-unfolding plain atEnd
+unfolding plain plainParts atEnd
 at-its-end s at end P e =
     let a = parts _ _ P end e in
     let b = parts _ _ P end (a .then′) in

@@ -1,1 +1,3 @@
-// The image writer: a program back to bytes.
+// The image writer: an accepted image through its program back to bytes.
+pub mod field;
+pub mod writer;

@@ -1,0 +1,43 @@
+-- `pass_pairs` meets its contract: after i turns so many items are passed.
+use Prim.Native.Nat.{_-_, _≤_}
+use native.Mathlib.Omega.{arith}
+use mathlib.Core.Path.{_≡_, refl, ap, _∙_}
+use lib.ListN.{length}
+use borrow.Author.Needs.{needs}
+use Rattle.image_writer.specs.Answer.{Passed}
+use Rattle.image_writer.specs.Past.{times, pastPair}
+use Rattle.image_writer.proofs.Keeps.{none-passed, more-passed, all-passed}
+use Rattle.image_writer.proofs.writer.pass_pairs.Statement.{statement}
+use Rattle.image_writer.proofs.writer.pass_pairs.Tie as tie
+
+abbrev Inv-loop : tie.InvT-loop
+Inv-loop image out₀ count c₀ i₀ out c i = Passed image (times i (pastPair image)) c₀ out₀ c out × (i ≤ count) × (length out ≡ length out₀)
+
+abbrev μ-loop : tie.MeasureT-loop
+μ-loop image out₀ count c₀ i₀ out c i = count - i
+
+loop-holds : tie.Need-loop-holds Inv-loop μ-loop
+loop-holds c = (none-passed (pastPair (c .before .before .args .image .now)), omega arith, refl)
+
+pass-pair-requires : tie.Need-pass-pair-requires Inv-loop μ-loop
+pass-pair-requires c κs = tt
+
+add-i : tie.Need-add-i Inv-loop μ-loop
+add-i c = search needs
+
+loop-less : tie.Need-loop-less Inv-loop μ-loop
+loop-less c = omega arith
+
+loop-again : tie.Need-loop-again Inv-loop μ-loop
+loop-again c =
+    let l = c .before .before .before .before .before .loop in
+    (more-passed (pastPair (c .before .before .before .before .before .before .before .before .args .image .now)) (l .i) (l .inv .0) (c .before .before .pass-pair .ensures), omega arith, omega (arith, l .inv .2, c .before .out .given))
+
+same-length : tie.Need-same-length Inv-loop μ-loop
+same-length c = c .before .loop .inv .2
+
+returns : tie.Need-returns Inv-loop μ-loop
+returns c = all-passed (pastPair (c .before .before .before .before .args .image .now)) (c .before .loop .i) (c .before .before .before .before .args .count) (omega arith) (c .before .loop .inv .0)
+
+pub pass-pairs-spec : {M : Type 1} → statement M
+pass-pairs-spec = tie.close (tie.spec Inv-loop μ-loop loop-holds pass-pair-requires add-i loop-less loop-again same-length returns)
