@@ -1,18 +1,16 @@
 -- A part of the walk writes what it reads: by the bytes of what was read, and one part after another.
-use Prim.Native.Nat.{ℕ, zero, suc, _+_, _-_, _^_, _≤_, _<_}
+use Prim.Native.Nat.{ℕ, zero, suc, _+_, _≤_, _<_}
 use native.Mathlib.Numerals.{add-one}
 use native.Mathlib.Omega.{arith}
-use mathlib.Core.Bool.{Bool, true, false}
+use mathlib.Core.Bool.{false}
 use mathlib.Core.Path.{_≡_, refl, sym, ap, ap₂, subst, _∙_}
 use mathlib.Core.Logic.{inl, inr}
 use types.Run.{OneOf}
 use mathlib.Core.List.{List, [], _∷_, _++_, append-assoc}
 use lib.ListN.{length, take, drop, length-append, length-drop, take-append-drop}
 use borrow.Author.Tests.{le-leb, lt-leb, eq-eqb, ne-eqb}
-use lib.Seq.{sets, sets-eq, length-take-le, take-at, drop-drop, take-add, take-append-seam, drop-append-add}
-use lib.Dec.{leb}
-use Rattle.value.specs.Answer.{pick}
-use Rattle.image.specs.Parse.{Got, took, refused, andThen, _>>=_}
+use lib.Seq.{sets-eq, length-take-le, take-at, drop-drop, take-add, take-append-seam, drop-append-add}
+use Rattle.image.specs.Parse.{Got, took, refused, andThen}
 use Rattle.image.specs.Number.{number, bytesOf}
 use Rattle.image.specs.Answer.{got, shape, after, orElse, Wrote}
 use Rattle.image.specs.declared.number.Number.{Number}
@@ -20,13 +18,12 @@ use Rattle.image.specs.declared.number.Number.the-variants.{Value, Bad}
 use Rattle.image.specs.declared.number.Written.{Written}
 use Rattle.image.specs.declared.field.Step.{Step}
 use Rattle.image.specs.Fields.{raw}
-use Rattle.image.specs.declared.number.Written.the-variants.{To, Full}
 use Rattle.image.proofs.Round.{written-reads}
 use Rattle.image_writer.specs.Answer.{Stored, placeAfter, Kept, Passed}
 use Rattle.image_writer.specs.Limits.{Each}
 use Rattle.image_writer.specs.Past.{endOf, among, numberAt, pastNumber, pastPair, pastRaw, times, pastOptional, pastList, pastBytes, pastFields, pastInstruction, pastParts, pastWhole}
 use Rattle.image_writer.specs.declared.writer.Pass.{Pass}
-use Rattle.image_writer.proofs.Spells.{AreBytes, Spells, number-spells, parts}
+use Rattle.image_writer.proofs.Spells.{AreBytes, number-spells, parts}
 use Rattle.image_writer.proofs.Stores.{has-room, of-number, number-length}
 
 -- ---- the bytes of what was read, stored

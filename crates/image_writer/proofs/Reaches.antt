@@ -1,11 +1,11 @@
 -- An image that is taken is passed to its end: where a field ends, the walk that leaves its limits aside stands.
-use Prim.Native.Nat.{ℕ, zero, suc, _+_, _-_, _^_, _≤_}
+use Prim.Native.Nat.{ℕ, zero, suc, _-_}
 use native.Mathlib.Omega.{arith}
-use mathlib.Core.Bool.{Bool, true, false}
-use mathlib.Core.Path.{_≡_, refl, sym, ap, ap₂, _∙_}
+use mathlib.Core.Bool.{Bool, true}
+use mathlib.Core.Path.{_≡_, sym, ap, ap₂, _∙_}
 use mathlib.Core.List.{List, [], _∷_, map}
 use mathlib.Core.Option.{Option, none, some}
-use lib.ListN.{length, getD, take, drop}
+use lib.ListN.{length, getD}
 use lib.Dec.{leb, eqb}
 use borrow.Author.Tests.{leb-true}
 use Rattle.value.specs.Answer.{pick}
@@ -14,13 +14,13 @@ use Rattle.value.specs.Value.{Kind, value}
 use Rattle.image.specs.Parse.{Got, took, refused, Field, andThen, give, many, within, _>>=_, _<$>_, one, two, three, four, five}
 use Rattle.image.specs.Number.{number}
 use Rattle.image.specs.Answer.{orElse}
-use Rattle.image.specs.Fields.{such, upTo, atMost, known, meant, optional, listOf, raw, bytes, atEnd}
-use Rattle.image.specs.Image.{Counts, fits, kinds, types, intCmps, floatCmps, versions, flags, items, flagsOf, mostParameters, header, literalOf, u32, size, type, var, label, constant, callee, operand, slot, branch, declared, table, instruction, function, loaded}
-use Rattle.image.specs.Program.{Program, Operand, literal, Instruction, Jump, Switch, Assign, ConstantAddress, Call, Return, IntCmp′, FloatCmp′, Add, Sub, Mul, Div, Mod, FDiv, Not, Negate, Offset, Initialize, Write, Read, Copy, Drop}
+use Rattle.image.specs.Fields.{such, atMost, known, meant, optional, listOf, raw, bytes, atEnd}
+use Rattle.image.specs.Image.{Counts, fits, kinds, types, intCmps, floatCmps, versions, flags, items, flagsOf, mostParameters, header, literalOf, u32, size, type, var, label, constant, callee, operand, slot, branch, declared, table, instruction, function}
+use Rattle.image.specs.Program.{Operand, literal, Instruction, Jump, Switch, Assign, ConstantAddress, Call, Return, IntCmp′, FloatCmp′, Add, Sub, Mul, Div, Mod, FDiv, Not, Negate, Offset, Initialize, Write, Read, Copy, Drop}
 use Rattle.image_writer.specs.Past.{endOf, times, among, numberAt, pastNumber, pastPair, pastRaw, pastOptional, pastList, pastBytes, pastSwitch, pastCall, pastChosen, pastThree, pastTyped, pastTwo, pastInitialize, pastWrite, pastCopy, pastFields, pastInstruction, pastFunction, pastParts, pastWhole}
 use Rattle.image_writer.proofs.Spells.{parts, picked, Every, every-at, meant-some, two-right, three-right, four-right, five-right}
 use Rattle.image_writer.proofs.Keeps.{same-parts}
-use Rattle.image_writer.proofs.Plain.{plain, plainParts, loaded-plain}
+use Rattle.image_writer.proofs.Plain.{plain, plainParts}
 
 -- whatever p takes, it ends where `past` says
 pub record Reaches {A : Type 0} (p : Field A) (past : ℕ → ℕ) : Type 0 where

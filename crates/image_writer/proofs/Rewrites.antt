@@ -1,14 +1,12 @@
 -- The entry's answers: an image that is taken is walked to its end, so the buffer starts with its bytes, which are its program's.
-use Prim.Native.Nat.{ℕ, _+_, _≤_, _<_}
+use Prim.Native.Nat.{ℕ, _≤_, _<_}
 use native.Mathlib.Omega.{arith}
-use mathlib.Core.Bool.{Bool, true, false}
-use mathlib.Core.Path.{_≡_, refl, sym, ap, ap₂, _∙_}
+use mathlib.Core.Path.{_≡_, sym, ap, ap₂, _∙_}
 use mathlib.Core.List.{List, _++_}
 use lib.ListN.{length, take, drop}
 use lib.Seq.{take-length}
 use lib.Dec.{leb}
 use borrow.Author.Tests.{le-leb, lt-leb}
-use Rattle.value.specs.Answer.{pick}
 use Rattle.value.specs.Refusal.{overLimit, shortBuffer}
 use Rattle.image.specs.Parse.{Got, took, refused, andThen}
 use Rattle.image.specs.Image.{Image, image, programOf, loaded}
@@ -27,7 +25,7 @@ use Rattle.image.specs.declared.number.Written.{Written}
 use Rattle.image_writer.proofs.Spells.{AreBytes, picked}
 use Rattle.image_writer.proofs.Plain.{plain, loaded-plain}
 use Rattle.image_writer.proofs.Writes.{loaded-writes, loaded-end}
-use Rattle.image_writer.proofs.Reaches.{Reaches, plain-reaches}
+use Rattle.image_writer.proofs.Reaches.{plain-reaches}
 
 -- ---- what the loader's last place says of the definition's answer
 

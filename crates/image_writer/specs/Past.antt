@@ -4,7 +4,7 @@ use mathlib.Core.Bool.{Bool, false, _||_}
 use mathlib.Core.List.{List, [], _∷_}
 use lib.Dec.{eqb}
 use Rattle.value.specs.Answer.{pick}
-use Rattle.image.specs.Parse.{Got, took, refused, Field, andThen, _>>=_}
+use Rattle.image.specs.Parse.{Got, took, refused, _>>=_}
 use Rattle.image.specs.Number.{number}
 use Rattle.image.specs.Fields.{raw}
 use Rattle.image.specs.Answer.{orElse}

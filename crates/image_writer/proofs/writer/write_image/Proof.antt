@@ -1,5 +1,4 @@
 -- `write_image` meets its contract: by the loader's answer, the buffer's length, and the walk.
-use native.Mathlib.Omega.{arith}
 use borrow.Author.Needs.{needs}
 use mathlib.Core.Path.{refl}
 use Rattle.image_writer.proofs.Rewrites.{last-place, image-refused, too-short, rewritten}
