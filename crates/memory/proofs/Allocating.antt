@@ -369,3 +369,16 @@ module _ (t : Tables) (so : Sound t) (size : ℕ) where
 
   pub allocate-sound : (p : ℕ) (m : Registers) → allocatedOf t size .answer ≡ given.Made p m → Sound (afterwards m (allocatedOf t size))
   allocate-sound = kept allocation
+
+  numbered : Allocation t size → (p : ℕ) (m : Registers) → allocatedOf t size .answer ≡ given.Made p m → p ≡ length (view t .pointers)
+  numbered (fullAllocations a b) p m e = absurd (never-made allocationsFull p m (sym (ap answer a) ∙ e))
+  numbered (fullBytes a b) p m e = absurd (never-made bytesFull p m (sym (ap answer a) ∙ e))
+  numbered (fullPointers a b) p m e = absurd (never-made pointersFull p m (sym (ap answer a) ∙ e))
+  numbered (roomFor few room left a b) p m e =
+      let f : given.Made (t .registers .pointers) (more (t .registers)) ≡ given.Made p m = sym (ap answer a) ∙ e in
+      let g : p ≡ t .registers .pointers = cc in
+      g ∙ sym (count-seen t so)
+
+  -- The number given is that of pointers before.
+  pub allocate-number : (p : ℕ) (m : Registers) → allocatedOf t size .answer ≡ given.Made p m → p ≡ length (view t .pointers)
+  allocate-number = numbered allocation

@@ -242,3 +242,32 @@ module _ (t : Tables) (so : Sound t) where
       let g : more (t .registers) ≡ m = cc in
       simp (z, y, u, k, v, w) (rw g at (given-kept (pointer 0 (q .index) (q .id) (q .allocation) (q .offset + by)) (leb-false _ _ w) (local-ok _ _ _ _))))))
       (λ k. absurd (never-given throughConstant n m (simp (z, y, u, k) at e))))
+
+  -- The number given is that of pointers before.
+  pub address-number : (k p : ℕ) (m : Registers) → addressOf (t .registers) k (t .pointers) .answer ≡ given.Made p m → p ≡ length (view t .pointers)
+  unfolding addressOf
+  address-number k p m e =
+      let z = eq-eqb _ _ (so .ready .pointers) in
+      by-test (leb 4096 (t .registers .pointers))
+      (λ u. absurd (never-given pointersFull p m (simp (z, u) at e)))
+      (λ u. let f : given.Made (t .registers .pointers) (more (t .registers)) ≡ given.Made p m = simp (z, u) at e in
+      let g : p ≡ t .registers .pointers = cc in
+      g ∙ sym count-seen)
+
+  pub offset-number : (p by n : ℕ) (m : Registers) → offsetOf (t .registers) p by (t .pointers) .answer ≡ given.Made n m → n ≡ length (view t .pointers)
+  unfolding offsetOf
+  offset-number p by n m e =
+      let z = eq-eqb _ _ (so .ready .pointers) in
+      let y = le-ltb _ _ (so .ready .given) in
+      let q = pointerAt (t .pointers) p in
+      by-test (leb (t .registers .pointers) p)
+      (λ u. absurd (never-given notGivenOut n m (simp (z, y, u) at e)))
+      (λ u. by-test (eqb (q .kind) 0)
+      (λ k. by-test (ltb (18446744073709551615 - by) (q .offset))
+      (λ v. absurd (never-given offsetTooLarge n m (simp (z, y, u, k, v) at e)))
+      (λ v. by-test (leb 4096 (t .registers .pointers))
+      (λ w. absurd (never-given pointersFull n m (simp (z, y, u, k, v, w) at e)))
+      (λ w. let f : given.Made (t .registers .pointers) (more (t .registers)) ≡ given.Made n m = simp (z, y, u, k, v, w) at e in
+      let g : n ≡ t .registers .pointers = cc in
+      g ∙ sym count-seen)))
+      (λ k. absurd (never-given throughConstant n m (simp (z, y, u, k) at e))))
