@@ -1,4 +1,4 @@
--- How far the fields of an image reach, their limits left aside: what the writer's walk goes by.
+-- How far the fields of an image reach, their limits left aside: what the private parts of the writer's walk promise. The entry's contract rests on `loaded` and `written` alone.
 use Prim.Native.Nat.{ℕ, zero, suc}
 use mathlib.Core.Bool.{Bool, false, _||_}
 use mathlib.Core.List.{List, [], _∷_}

@@ -251,7 +251,7 @@ fn pass_copy(image: &[u8], out: &mut [u8], c: Pass) -> Pass
     pass_number(image, out, from)
 }
 
-// The fields that an opcode has.
+// The fields that an opcode has. Neighbours that share a shape stand in two arms, since an arm of neighbours would be a range.
 fn pass_fields(image: &[u8], out: &mut [u8], c: Pass, opcode: u64) -> Pass
     ensures { λ r. ⌜ Passed (now (image .entry)) (pastFields (now (image .entry)) opcode) c (now (out .entry)) r (now (out .exit)) ⌝ }
 {

@@ -1,6 +1,9 @@
 -- `write_image` meets its contract: by the loader's answer, the buffer's length, and the walk.
+use Prim.Native.Nat.{_≤_, _<_}
+use native.Mathlib.Omega.{arith}
 use borrow.Author.Needs.{needs}
 use mathlib.Core.Path.{refl}
+use lib.ListN.{length}
 use Rattle.image_writer.proofs.Rewrites.{last-place, image-refused, too-short, rewritten}
 use Rattle.image_writer.proofs.writer.write_image.Statement.{statement}
 use Rattle.image_writer.proofs.writer.write_image.Tie as tie
@@ -18,7 +21,8 @@ returns : tie.Need-returns
 returns c =
     let a = c .before .before .before .before .before .before .before .args in
     let l = c .before .before .before .before .load in
-    too-short (a .image .now) (a .out .now) (λ k. c .before .before .before .before .before .before .shared-slice-known .given k .fits) _ (last-place (a .image .now) (l .result) (l .ensures) (c .before .before .last2 .given .1)) (c .if1 .taken)
+    let over : length (a .out .now) < c .before .before .last2 .given .0 .0 = omega (arith, c .if1 .taken) in
+    too-short (a .image .now) (a .out .now) (λ k. c .before .before .before .before .before .before .shared-slice-known .given k .fits) _ (last-place (a .image .now) (l .result) (l .ensures) (c .before .before .last2 .given .1)) over
 
 pass-whole-requires : tie.Need-pass-whole-requires
 pass-whole-requires c κs = tt
@@ -36,8 +40,9 @@ returns-3 : tie.Need-returns-3
 returns-3 c =
     let a = c .before .before .before .before .before .before .before .before .before .before .before .args in
     let l = c .before .before .before .before .before .before .before .before .load in
+    let enough : c .before .before .before .before .before .before .last2 .given .0 .0 ≤ length (a .out .now) = omega (arith, c .before .before .before .before .if1 .left) in
     rewritten (a .image .now) (a .out .now) (λ k. c .before .before .before .before .before .before .before .before .before .before .shared-slice-known .given k .fits) _ (last-place (a .image .now) (l .result) (l .ensures) (c .before .before .before .before .before .before .last2 .given .1))
-    _ _ _ (c .before .before .before .before .if1 .left) refl refl (c .before .before .pass-whole .ensures)
+    _ _ _ enough refl refl (c .before .before .pass-whole .ensures)
 
 pub write-image-spec : {M : Type 1} → statement M
 write-image-spec = tie.close (tie.spec load-requires enum-known-last enum-known-last-2 returns pass-whole-requires returns-2 same-length returns-3)
