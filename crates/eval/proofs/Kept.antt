@@ -139,7 +139,7 @@ module _ (n : ℕ) (few : n ≤ 256) where
   value-if-good vs g (some o) t = keeps-then Good GoodIf (value-good vs g o t) (λ v h. kept h)
 
   to-good : (to : Option Declared) → T (goodTo n to) → T (goodVar (toOf to))
-  unfolding goodTo toOf
+  unfolding goodTo goodVar toOf
   to-good none t = tt
   to-good (some d) t = lt→ltb (d .to) 256 (le-trans (ltb→lt (d .to) n t) few)
 
@@ -227,7 +227,7 @@ module _ {M : Type 0} {mem : Memories M} {I : Bool → M → Type 0} (K : Kept m
       leave-held v t (at-root j) = let stays : s .place ≤ 4096 = omega arith in kept (held-ended (record { memory = j; place = stays; vars = g }))
       leave-held v t (back-to {back} b j) =
           keeps-then GoodVars HeldStep (returned-good (s .vars) g (back .var) v t)
-          (λ vs h. kept (held-went tt (record { memory = j; place = leb→le (back .place) 4096 (and-yes (leb (back .place) 4096) (goodVar (back .var)) b .0); vars = h })))
+          (λ vs h. kept (held-went tt (record { memory = j; place = leb→le (back .place) 4096 (and-yes (goodVar (back .var)) (leb (back .place) 4096) b .1); vars = h })))
 
       execute-held : (x : Instruction) → T (goodInstruction (P .variables) x) → Keeps HeldStep (execute mem P s x)
       unfolding execute goodInstruction goodBack
@@ -241,7 +241,7 @@ module _ {M : Type 0} {mem : Memories M} {I : Bool → M → Type 0} (K : Kept m
           let t₃ = and-yes (goodOptional (P .variables) context) _ (t₂ .1) in
           let F : Function = functionAt P f in
           keeps-then (I true) HeldStep
-          (K .push i _ (yes-and (leb (s .place + 1) 4096) (goodVar (toOf to)) (le→leb (s .place + 1) 4096 (omega arith)) (to-good (P .variables) few to (t₁ .0))))
+          (K .push i _ (yes-and (goodVar (toOf to)) (leb (s .place + 1) 4096) (to-good (P .variables) few to (t₁ .0)) (le→leb (s .place + 1) 4096 (omega arith))))
           (λ m j. keeps-then (λ y. HeldSlots y true) HeldStep (slots-held true (F .slots) (s .vars) j g)
           (λ x₁ h₁. keeps-then GoodVars HeldStep (set-from-good (P .variables) few (x₁ .1) (h₁ .vars) (F .returnVar) (asVariable returnPointer) (t₂ .0))
           (λ vs₂ g₂. keeps-then GoodVars HeldStep (set-from-good (P .variables) few vs₂ g₂ (F .contextVar) context (t₃ .0))

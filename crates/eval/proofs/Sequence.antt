@@ -8,8 +8,7 @@ use Rattle.memory.specs.Memory.{sum, liveCount, liveBytes, allocate, access, wr
 use Rattle.eval.specs.Machine as M
 use Rattle.eval.specs.Believed.{believed}
 use Rattle.eval.specs.Recalled.{recalled}
-use Rattle.memory.specs.Stored.{isValue}
-use Rattle.memory.specs.Sound.{soundMachine, rising, goodBack, goodBacks, goodValue, goodValues, soundMemory}
+use Rattle.memory.specs.Sound.{rising, goodVar, goodBack, goodBacks, goodValue, goodVars, soundMemory, soundMachine, inKind, typed}
 use Rattle.eval.specs.Sound.{all, bytesIn, sound}
 use Rattle.value.specs.Tags.{holds}
 use Rattle.eval.specs.Accepted.{given, goodOperand, goodOptional, goodTo, goodInstruction, accepted, acceptedAsk}
@@ -24,7 +23,7 @@ unfolding asked all given holds goodOperand goodOptional goodTo goodInstruction 
 asked-accepted = tt
 
 pub asked-answered : answers asked (M.fresh believed) ≡ answered
-unfolding asked answered need found _>>=_ kindOf tag size family isScalar isBadChar leBytes leNumber bytesOf fromBytes flatten Memory.fresh sum liveCount liveBytes allocate access writeAt writeBytes readConstant readAt readBytes offsetAt offsetBy constantAddress pushFrame popFrame livePointer liveList rising goodBack goodBacks goodValue goodValues isValue soundMachine soundMemory bytesIn all holds sound changes shows steps goes lays ask enter answers M.start M.step M.stepOnce M.execute M.leave M.makeSlots M.fresh M.setStarted M.setValues M.allGood M.setReturned M.valueIf M.toOf M.setArguments M.asVariable M.setFrom M.pointerOf M.asPointer M.valueOf M.hostRead M.hostList
+unfolding asked answered need found _>>=_ kindOf tag size family isScalar isBadChar leBytes leNumber bytesOf fromBytes flatten Memory.fresh sum liveCount liveBytes allocate access writeAt writeBytes readConstant readAt readBytes offsetAt offsetBy constantAddress pushFrame popFrame livePointer liveList rising goodVar goodBack goodBacks goodValue goodVars inKind typed soundMachine soundMemory bytesIn all holds sound changes shows steps goes lays ask enter answers M.start M.step M.stepOnce M.execute M.leave M.makeSlots M.fresh M.setStarted M.setValues M.allGood M.setReturned M.valueIf M.toOf M.setArguments M.asVariable M.setFrom M.pointerOf M.asPointer M.valueOf M.hostRead M.hostList
 asked-answered = refl
 
 -- and so it is told

@@ -19,8 +19,8 @@ use Rattle.eval.specs.Believed.{believed}
 use Rattle.value.specs.Value.{Value, value, Kind, bool, u8, u16, u32, u64, i8, i16, i32, i64, f32, f64, char, asn, pointer, tag, size, isBadChar, isScalar}
 use Rattle.value.specs.Tags.{holds}
 use Rattle.value.proofs.Roundtrip.{scalar-small}
-use Rattle.memory.specs.Stored.{isValue}
-use Rattle.memory.specs.Sound.{soundMachine, rising, goodBack, goodBacks, goodValue, goodValues, soundMemory}
+use Rattle.memory.specs.Stored.{greatest}
+use Rattle.memory.specs.Sound.{rising, goodVar, goodBack, goodBacks, goodValue, goodVars, soundMemory, soundMachine, inKind, typed}
 use Rattle.eval.specs.Sound.{all, bytesIn, sound}
 use Rattle.eval.specs.Accepted.{acceptedAsk}
 use Rattle.eval.specs.Asks.{Ask, Reply, refusal, turn, ask, replies, following}
@@ -29,7 +29,7 @@ use Rattle.eval.proofs.Kept.{GoodIf, Held, ask-held}
 use Rattle.eval.proofs.SoundMemory.{sound-solid, solid-sound, Later, later-same, later-then, sounds-kept}
 
 pub fresh-sound : T (sound (fresh believed))
-unfolding sound soundMachine soundMemory bytesIn all rising goodBacks goodBack goodValues goodValue Memory.fresh sum liveCount liveBytes fresh
+unfolding sound soundMachine soundMemory bytesIn all rising goodBacks goodBack goodVar goodVars goodValue typed inKind Memory.fresh sum liveCount liveBytes fresh
 fresh-sound = tt
 
 -- ---- the test, and the facts
@@ -46,85 +46,112 @@ is-true : (x : Bool) → T x → x ≡ true
 is-true true t = refl
 is-true false t = absurd t
 
--- the memory's word for a value is the value's own
-held-value : (k : Kind) (b : ℕ) → T (isValue (value k b)) → T (holds k b)
-unfolding isValue isBadChar holds tag size
-held-value bool b t = lt→ltb b 2 (omega (arith, leb→le b 1 (and-yes (leb b 1) true t .0)))
-held-value u8 b t = lt→ltb b (2 ^ 8) (omega (arith, leb→le b (2 ^ 8 - 1) (and-yes (leb b (2 ^ 8 - 1)) true t .0)))
-held-value u16 b t = lt→ltb b (2 ^ 16) (omega (arith, leb→le b (2 ^ 16 - 1) (and-yes (leb b (2 ^ 16 - 1)) true t .0)))
-held-value u32 b t = lt→ltb b (2 ^ 32) (omega (arith, leb→le b (2 ^ 32 - 1) (and-yes (leb b (2 ^ 32 - 1)) true t .0)))
-held-value u64 b t = lt→ltb b (2 ^ 64) (omega (arith, leb→le b (2 ^ 64 - 1) (and-yes (leb b (2 ^ 64 - 1)) true t .0)))
-held-value i8 b t = lt→ltb b (2 ^ 8) (omega (arith, leb→le b (2 ^ 8 - 1) (and-yes (leb b (2 ^ 8 - 1)) true t .0)))
-held-value i16 b t = lt→ltb b (2 ^ 16) (omega (arith, leb→le b (2 ^ 16 - 1) (and-yes (leb b (2 ^ 16 - 1)) true t .0)))
-held-value i32 b t = lt→ltb b (2 ^ 32) (omega (arith, leb→le b (2 ^ 32 - 1) (and-yes (leb b (2 ^ 32 - 1)) true t .0)))
-held-value i64 b t = lt→ltb b (2 ^ 64) (omega (arith, leb→le b (2 ^ 64 - 1) (and-yes (leb b (2 ^ 64 - 1)) true t .0)))
-held-value f32 b t = lt→ltb b (2 ^ 32) (omega (arith, leb→le b (2 ^ 32 - 1) (and-yes (leb b (2 ^ 32 - 1)) true t .0)))
-held-value f64 b t = lt→ltb b (2 ^ 64) (omega (arith, leb→le b (2 ^ 64 - 1) (and-yes (leb b (2 ^ 64 - 1)) true t .0)))
-held-value asn b t = lt→ltb b (2 ^ 32) (omega (arith, leb→le b (2 ^ 32 - 1) (and-yes (leb b (2 ^ 32 - 1)) true t .0)))
-held-value pointer b t = lt→ltb b (2 ^ 64) (omega (arith, leb→le b (2 ^ 64 - 1) (and-yes (leb b (2 ^ 64 - 1)) true t .0)))
-held-value char b t = twice (isScalar b) (and-yes (leb b (2 ^ 32 - 1)) (not (not (isScalar b))) t .1)
+-- bits in their kind and no bad Char: that is a value
+held-value : (k : Kind) (b : ℕ) → T (leb b (greatest k)) → T (not (isBadChar (value k b))) → T (holds k b)
+unfolding isBadChar holds tag size
+held-value bool b t u = lt→ltb b 2 (omega (arith, leb→le b 1 t))
+held-value u8 b t u = lt→ltb b (2 ^ 8) (omega (arith, leb→le b (2 ^ 8 - 1) t))
+held-value u16 b t u = lt→ltb b (2 ^ 16) (omega (arith, leb→le b (2 ^ 16 - 1) t))
+held-value u32 b t u = lt→ltb b (2 ^ 32) (omega (arith, leb→le b (2 ^ 32 - 1) t))
+held-value u64 b t u = lt→ltb b (2 ^ 64) (omega (arith, leb→le b (2 ^ 64 - 1) t))
+held-value i8 b t u = lt→ltb b (2 ^ 8) (omega (arith, leb→le b (2 ^ 8 - 1) t))
+held-value i16 b t u = lt→ltb b (2 ^ 16) (omega (arith, leb→le b (2 ^ 16 - 1) t))
+held-value i32 b t u = lt→ltb b (2 ^ 32) (omega (arith, leb→le b (2 ^ 32 - 1) t))
+held-value i64 b t u = lt→ltb b (2 ^ 64) (omega (arith, leb→le b (2 ^ 64 - 1) t))
+held-value f32 b t u = lt→ltb b (2 ^ 32) (omega (arith, leb→le b (2 ^ 32 - 1) t))
+held-value f64 b t u = lt→ltb b (2 ^ 64) (omega (arith, leb→le b (2 ^ 64 - 1) t))
+held-value asn b t u = lt→ltb b (2 ^ 32) (omega (arith, leb→le b (2 ^ 32 - 1) t))
+held-value pointer b t u = lt→ltb b (2 ^ 64) (omega (arith, leb→le b (2 ^ 64 - 1) t))
+held-value char b t u = twice (isScalar b) u
 
-value-held : (k : Kind) (b : ℕ) → T (holds k b) → T (isValue (value k b))
-unfolding isValue isBadChar holds tag size
-value-held bool b t = yes-and (leb b 1) true (le→leb b 1 (omega (arith, ltb→lt b 2 t))) tt
-value-held u8 b t = yes-and (leb b (2 ^ 8 - 1)) true (le→leb b (2 ^ 8 - 1) (omega (arith, ltb→lt b (2 ^ 8) t))) tt
-value-held u16 b t = yes-and (leb b (2 ^ 16 - 1)) true (le→leb b (2 ^ 16 - 1) (omega (arith, ltb→lt b (2 ^ 16) t))) tt
-value-held u32 b t = yes-and (leb b (2 ^ 32 - 1)) true (le→leb b (2 ^ 32 - 1) (omega (arith, ltb→lt b (2 ^ 32) t))) tt
-value-held u64 b t = yes-and (leb b (2 ^ 64 - 1)) true (le→leb b (2 ^ 64 - 1) (omega (arith, ltb→lt b (2 ^ 64) t))) tt
-value-held i8 b t = yes-and (leb b (2 ^ 8 - 1)) true (le→leb b (2 ^ 8 - 1) (omega (arith, ltb→lt b (2 ^ 8) t))) tt
-value-held i16 b t = yes-and (leb b (2 ^ 16 - 1)) true (le→leb b (2 ^ 16 - 1) (omega (arith, ltb→lt b (2 ^ 16) t))) tt
-value-held i32 b t = yes-and (leb b (2 ^ 32 - 1)) true (le→leb b (2 ^ 32 - 1) (omega (arith, ltb→lt b (2 ^ 32) t))) tt
-value-held i64 b t = yes-and (leb b (2 ^ 64 - 1)) true (le→leb b (2 ^ 64 - 1) (omega (arith, ltb→lt b (2 ^ 64) t))) tt
-value-held f32 b t = yes-and (leb b (2 ^ 32 - 1)) true (le→leb b (2 ^ 32 - 1) (omega (arith, ltb→lt b (2 ^ 32) t))) tt
-value-held f64 b t = yes-and (leb b (2 ^ 64 - 1)) true (le→leb b (2 ^ 64 - 1) (omega (arith, ltb→lt b (2 ^ 64) t))) tt
-value-held asn b t = yes-and (leb b (2 ^ 32 - 1)) true (le→leb b (2 ^ 32 - 1) (omega (arith, ltb→lt b (2 ^ 32) t))) tt
-value-held pointer b t = yes-and (leb b (2 ^ 64 - 1)) true (le→leb b (2 ^ 64 - 1) (omega (arith, ltb→lt b (2 ^ 64) t))) tt
-value-held char b t = yes-and (leb b (2 ^ 32 - 1)) (not (not (isScalar b))) (le→leb b (2 ^ 32 - 1) (omega (arith, scalar-small b (is-true (isScalar b) t)))) (again (isScalar b) t)
+in-kind : (k : Kind) (b : ℕ) → T (holds k b) → T (leb b (greatest k))
+unfolding holds tag size
+in-kind bool b t = le→leb b 1 (omega (arith, ltb→lt b 2 t))
+in-kind u8 b t = le→leb b (2 ^ 8 - 1) (omega (arith, ltb→lt b (2 ^ 8) t))
+in-kind u16 b t = le→leb b (2 ^ 16 - 1) (omega (arith, ltb→lt b (2 ^ 16) t))
+in-kind u32 b t = le→leb b (2 ^ 32 - 1) (omega (arith, ltb→lt b (2 ^ 32) t))
+in-kind u64 b t = le→leb b (2 ^ 64 - 1) (omega (arith, ltb→lt b (2 ^ 64) t))
+in-kind i8 b t = le→leb b (2 ^ 8 - 1) (omega (arith, ltb→lt b (2 ^ 8) t))
+in-kind i16 b t = le→leb b (2 ^ 16 - 1) (omega (arith, ltb→lt b (2 ^ 16) t))
+in-kind i32 b t = le→leb b (2 ^ 32 - 1) (omega (arith, ltb→lt b (2 ^ 32) t))
+in-kind i64 b t = le→leb b (2 ^ 64 - 1) (omega (arith, ltb→lt b (2 ^ 64) t))
+in-kind f32 b t = le→leb b (2 ^ 32 - 1) (omega (arith, ltb→lt b (2 ^ 32) t))
+in-kind f64 b t = le→leb b (2 ^ 64 - 1) (omega (arith, ltb→lt b (2 ^ 64) t))
+in-kind asn b t = le→leb b (2 ^ 32 - 1) (omega (arith, ltb→lt b (2 ^ 32) t))
+in-kind pointer b t = le→leb b (2 ^ 64 - 1) (omega (arith, ltb→lt b (2 ^ 64) t))
+in-kind char b t = le→leb b (2 ^ 32 - 1) (omega (arith, scalar-small b (is-true (isScalar b) t)))
 
-value-good : (o : Option Value) → T (goodValue o) → GoodIf o
-unfolding goodValue
-value-good none t = tt
-value-good (some v) t = held-value (v .kind) (v .bits) t
+no-bad-char : (k : Kind) (b : ℕ) → T (holds k b) → T (not (isBadChar (value k b)))
+unfolding isBadChar holds tag
+no-bad-char bool b t = tt
+no-bad-char u8 b t = tt
+no-bad-char u16 b t = tt
+no-bad-char u32 b t = tt
+no-bad-char u64 b t = tt
+no-bad-char i8 b t = tt
+no-bad-char i16 b t = tt
+no-bad-char i32 b t = tt
+no-bad-char i64 b t = tt
+no-bad-char f32 b t = tt
+no-bad-char f64 b t = tt
+no-bad-char asn b t = tt
+no-bad-char pointer b t = tt
+no-bad-char char b t = again (isScalar b) t
+
+value-good : (o : Option Value) → T (goodValue o) → T (inKind o) → GoodIf o
+unfolding goodValue inKind
+value-good none t u = tt
+value-good (some v) t u = held-value (v .kind) (v .bits) u t
 
 good-value : (o : Option Value) → GoodIf o → T (goodValue o)
 unfolding goodValue
 good-value none t = tt
-good-value (some v) t = value-held (v .kind) (v .bits) t
+good-value (some v) t = no-bad-char (v .kind) (v .bits) t
 
-values-good : (vs : Vars) (n : ℕ) → T (goodValues vs n) → (x : ℕ) → x < n → GoodIf (vs x)
-unfolding goodValues
-values-good vs zero t x l = absurd (not-suc-le-zero l)
-values-good vs (suc n) t x l =
-    let u = and-yes (goodValues vs n) (goodValue (vs n)) t in
-    elim (ℕ-discrete x n) [ yes e ↦ subst (λ (k : ℕ). GoodIf (vs k)) (sym e) (value-good (vs n) (u .1)) | no d ↦ values-good vs n (u .0) x (omega arith) ]
+typed-value : (o : Option Value) → GoodIf o → T (inKind o)
+unfolding inKind
+typed-value none t = tt
+typed-value (some v) t = in-kind (v .kind) (v .bits) t
 
-good-values : (vs : Vars) (n : ℕ) → ((x : ℕ) → x < n → GoodIf (vs x)) → T (goodValues vs n)
-unfolding goodValues
-good-values vs zero f = tt
-good-values vs (suc n) f = yes-and (goodValues vs n) (goodValue (vs n)) (good-values vs n (λ x l. f x (omega arith))) (good-value (vs n) (f n (le-refl _)))
+values-good : (vs : Vars) (n : ℕ) → T (goodVars vs n) → T (typed vs n) → (x : ℕ) → x < n → GoodIf (vs x)
+unfolding goodVars typed
+values-good vs zero t u x l = absurd (not-suc-le-zero l)
+values-good vs (suc n) t u x l =
+    let a = and-yes (goodValue (vs n)) (goodVars vs n) t in
+    let b = and-yes (inKind (vs n)) (typed vs n) u in
+    elim (ℕ-discrete x n) [ yes e ↦ subst (λ (k : ℕ). GoodIf (vs k)) (sym e) (value-good (vs n) (a .0) (b .0)) | no d ↦ values-good vs n (a .1) (b .1) x (omega arith) ]
+
+good-values : (vs : Vars) (n : ℕ) → ((x : ℕ) → x < n → GoodIf (vs x)) → T (goodVars vs n) × T (typed vs n)
+unfolding goodVars typed
+good-values vs zero f = (tt, tt)
+good-values vs (suc n) f =
+    let r = good-values vs n (λ x l. f x (omega arith)) in
+    (yes-and (goodValue (vs n)) (goodVars vs n) (good-value (vs n) (f n (le-refl _))) (r .0), yes-and (inKind (vs n)) (typed vs n) (typed-value (vs n) (f n (le-refl _))) (r .1))
 
 module _ {m₀ : Memory} {s : Machine Memory} where
   pub sound-held : T (sound s) → Later m₀ (s .memory) → Held (sounds-kept m₀) s
   unfolding sound soundMachine
   sound-held t l =
-      let z = and-yes (soundMachine (s .memory) (s .running) (s .place) (s .vars)) (bytesIn (s .memory .frames)) t in
+      let z = and-yes (soundMachine (s .memory) (s .running) (s .place) (s .vars)) _ t in
+      let y = and-yes (typed (s .vars) 256) (bytesIn (s .memory .frames)) (z .1) in
       let a = and-yes (soundMemory (s .memory)) _ (z .0) in
       let b = and-yes (leb (s .place) 4096) _ (a .1) in
-      let c = and-yes (goodValues (s .vars) 256) (s .running || eqb (length (s .memory .frames)) 1) (b .1) in
+      let c = and-yes (goodVars (s .vars) 256) (s .running || eqb (length (s .memory .frames)) 1) (b .1) in
       record {
-        memory = record { solid = sound-solid (s .memory) (a .0) (z .1); later = l; idle = c .1 };
+        memory = record { solid = sound-solid (s .memory) (a .0) (y .1); later = l; idle = c .1 };
         place = leb→le (s .place) 4096 (b .0);
-        vars = values-good (s .vars) 256 (c .0);
+        vars = values-good (s .vars) 256 (c .0) (y .0);
       }
 
   held-sound : Held (sounds-kept m₀) s → T (sound s)
   unfolding sound soundMachine bytesIn
   held-sound h =
-      yes-and (soundMachine (s .memory) (s .running) (s .place) (s .vars)) (bytesIn (s .memory .frames))
+      let g = good-values (s .vars) 256 (h .vars) in
+      yes-and (soundMachine (s .memory) (s .running) (s .place) (s .vars)) _
       (yes-and (soundMemory (s .memory)) _ (solid-sound (s .memory) (h .memory .solid))
       (yes-and (leb (s .place) 4096) _ (le→leb (s .place) 4096 (h .place))
-      (yes-and (goodValues (s .vars) 256) (s .running || eqb (length (s .memory .frames)) 1) (good-values (s .vars) 256 (h .vars)) (h .memory .idle))))
-      (h .memory .solid .contents)
+      (yes-and (goodVars (s .vars) 256) (s .running || eqb (length (s .memory .frames)) 1) (g .0) (h .memory .idle))))
+      (yes-and (typed (s .vars) 256) (bytesIn (s .memory .frames)) (g .1) (h .memory .solid .contents))
 
 pub sound-root : (s : Machine Memory) → T (sound s) → 0 < length (s .memory .frames)
 sound-root s t = sound-held {m₀ = s .memory} t (later-same (s .memory)) .memory .solid .root

@@ -162,17 +162,17 @@ pub record Solid (m : Memory) : Type 0 where
 pub sound-solid : (m : Memory) → T (soundMemory m) → T (bytesIn (m .frames)) → Solid m
 unfolding soundMemory bytesIn
 sound-solid m t u =
-    let a = and-yes (leb 1 (length (m .frames))) _ t in
-    let b = and-yes (leb (length (m .frames)) 64) _ (a .1) in
-    let c = and-yes (eqb (frameAt (m .frames) 0 .id) 0) _ (b .1) in
+    let a = and-yes (leb 1 (length (m .frames)) && leb (length (m .frames)) 64) _ t in
+    let b = and-yes (leb 1 (length (m .frames))) (leb (length (m .frames)) 64) (a .0) in
+    let c = and-yes (eqb (frameAt (m .frames) 0 .id) 0) _ (a .1) in
     let d = and-yes (rising (m .frames) (m .counter)) _ (c .1) in
     let e = and-yes (leb (m .counter) 4294967295) _ (d .1) in
     let f = and-yes (leb (liveCount (m .frames)) 512) _ (e .1) in
     let g = and-yes (leb (liveBytes (m .frames)) 32768) _ (f .1) in
     let h = and-yes (leb (length (m .pointers)) 4096) (goodBacks (m .frames)) (g .1) in
     record {
-      root = leb→le 1 (length (m .frames)) (a .0);
-      depth = leb→le (length (m .frames)) 64 (b .0);
+      root = leb→le 1 (length (m .frames)) (b .0);
+      depth = leb→le (length (m .frames)) 64 (b .1);
       root-id = eqb→eq (frameAt (m .frames) 0 .id) 0 (c .0);
       rises = subst T (rising-ids (m .frames) (m .counter)) (d .0);
       counted = leb→le (m .counter) 4294967295 (e .0);
@@ -186,15 +186,15 @@ sound-solid m t u =
 pub solid-sound : (m : Memory) → Solid m → T (soundMemory m)
 unfolding soundMemory
 solid-sound m s =
-    yes-and (leb 1 (length (m .frames))) _ (le→leb 1 (length (m .frames)) (s .root))
-    (yes-and (leb (length (m .frames)) 64) _ (le→leb (length (m .frames)) 64 (s .depth))
+    yes-and (leb 1 (length (m .frames)) && leb (length (m .frames)) 64) _
+    (yes-and (leb 1 (length (m .frames))) (leb (length (m .frames)) 64) (le→leb 1 (length (m .frames)) (s .root)) (le→leb (length (m .frames)) 64 (s .depth)))
     (yes-and (eqb (frameAt (m .frames) 0 .id) 0) _ (rw (s .root-id) tt)
     (yes-and (rising (m .frames) (m .counter)) _ (subst T (sym (rising-ids (m .frames) (m .counter))) (s .rises))
     (yes-and (leb (m .counter) 4294967295) _ (le→leb (m .counter) 4294967295 (s .counted))
     (yes-and (leb (liveCount (m .frames)) 512) _ (le→leb (liveCount (m .frames)) 512 (s .count))
     (yes-and (leb (liveBytes (m .frames)) 32768) _ (le→leb (liveBytes (m .frames)) 32768 (s .bytes))
     (yes-and (leb (length (m .pointers)) 4096) (goodBacks (m .frames)) (le→leb (length (m .pointers)) 4096 (s .pointers))
-    (subst T (sym (good-backs (m .frames))) (s .returns)))))))))
+    (subst T (sym (good-backs (m .frames))) (s .returns))))))))
 
 -- ---- an earlier memory and a later one
 

@@ -4,7 +4,7 @@ use mathlib.Core.Bool.{Bool, true, _&&_}
 use mathlib.Core.List.{List, [], _∷_}
 use lib.Dec.{ltb}
 use Rattle.memory.specs.Memory.{Memory, Frame}
-use Rattle.memory.specs.Sound.{soundMachine}
+use Rattle.memory.specs.Sound.{soundMachine, typed}
 use Rattle.eval.specs.Machine.{Machine}
 
 unfoldable pub all : {A : Type 0} → (A → Bool) → List A → Bool
@@ -18,6 +18,6 @@ areBytes bs = all (λ b. ltb b 256) bs
 unfoldable pub bytesIn : List Frame → Bool
 bytesIn fs = all (λ (f : Frame). all areBytes (f .allocations)) fs
 
--- the list of a sound state; and the bytes of its allocations are bytes
+-- the list of a sound state; and what the types say: a value's bits are its kind's, and bytes are bytes
 unfoldable pub sound : Machine Memory → Bool
-sound s = soundMachine (s .memory) (s .running) (s .place) (s .vars) && bytesIn (s .memory .frames)
+sound s = soundMachine (s .memory) (s .running) (s .place) (s .vars) && (typed (s .vars) 256 && bytesIn (s .memory .frames))
