@@ -22,7 +22,7 @@ use Rattle.value.proofs.Roundtrip.{bits-back}
 use Rattle.eval.specs.Variables.{found}
 use Rattle.eval.specs.Compute.{stored, answerOf, foundOf, foundAs, comparedInts, comparedFloats, operated, withSecond, binaryOf, altered, unaryOf}
 use Rattle.eval.specs.declared.variables.Found.{Found}
-use Rattle.eval.proofs.Values.{Keeps, kept, no-answer, Good, arithmetic-good, divided-good, compared-ints-good, compared-floats-good, notted-good, negated-good}
+use Rattle.machine.proofs.Values.{Keeps, kept, no-answer, Good, arithmetic-good, divided-good, compared-ints-good, compared-floats-good, notted-good, negated-good}
 
 is-true : (b : Bool) → T b → b ≡ true
 is-true true t = refl

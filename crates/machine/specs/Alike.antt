@@ -5,7 +5,7 @@ use mathlib.Core.List.{List}
 use mathlib.Core.Option.{Option, none, some}
 use Rattle.value.specs.Answer.{Answer, ok, refused}
 use Rattle.memory.specs.Memory.{Back}
-use Rattle.eval.specs.Machine.{Memories}
+use Rattle.machine.specs.Machine.{Memories}
 
 pub data Alike {A B : Type 0} (R : A → B → Type 0) : Answer A → Answer B → Type 0 where
   both-ok : {a : A} {b : B} → R a b → Alike R (ok a) (ok b)

@@ -17,12 +17,12 @@ use Rattle.value.specs.Tags.{holds}
 use Rattle.image.specs.Program.{Program, Operand, variable, literal, Slot, Declared, Function, functionAt, flatten, code, placeOf, Instruction, Jump, Switch, Assign, ConstantAddress, Call, Return, IntCmp′, FloatCmp′, Add, Sub, Mul, Div, Mod, FDiv, Not, Negate, Offset, Initialize, Write, Read, Copy, Drop}
 use Rattle.memory.specs.Memory.{Back}
 use Rattle.memory.specs.Live.{Live}
-use Rattle.eval.specs.Machine.{Memories, Vars, unset, setTo, Machine, Stepped, went, ended, Ran, valueOf, setFrom, setArguments, setValues, choose, asVariable, toOf, valueIf, setReturned, setStarted, allGood, makeSlots, sets₁, sets₂, leave, execute, step, after, runFrom, run, stepOnce, hostAllocate, hostWrite, start}
+use Rattle.machine.specs.Machine.{Memories, Vars, unset, setTo, Machine, Stepped, went, ended, Ran, valueOf, setFrom, setArguments, setValues, choose, asVariable, toOf, valueIf, setReturned, setStarted, allGood, makeSlots, sets₁, sets₂, leave, execute, step, after, runFrom, run, stepOnce, hostAllocate, hostWrite, start}
 use Rattle.memory.specs.Sound.{goodVar, goodBack}
-use Rattle.eval.specs.Sound.{all, areBytes}
-use Rattle.eval.specs.Accepted.{given, goodOperand, goodOptional, goodTo, goodInstruction, accepted, acceptedAsk}
-use Rattle.eval.specs.Asks.{Ask, toAllocate, toWrite, toRead, toStart, toStep, toRun, toList, Reply, changes, shows, steps, goes, lays, ask}
-use Rattle.eval.proofs.Values.{Keeps, kept, no-answer, keeps-need, keeps-then, keeps-after, Good, pointer-good, arithmetic-good, divided-good, stored-bytes, Bytes, negated-good, notted-good, compared-ints-good, compared-floats-good, read-good}
+use Rattle.machine.specs.Sound.{all, areBytes}
+use Rattle.machine.specs.Accepted.{given, goodOperand, goodOptional, goodTo, goodInstruction, accepted, acceptedAsk}
+use Rattle.machine.specs.Asks.{Ask, toAllocate, toWrite, toRead, toStart, toStep, toRun, toList, Reply, changes, shows, steps, goes, lays, ask}
+use Rattle.machine.proofs.Values.{Keeps, kept, no-answer, keeps-need, keeps-then, keeps-after, Good, pointer-good, arithmetic-good, divided-good, stored-bytes, Bytes, negated-good, notted-good, compared-ints-good, compared-floats-good, read-good}
 
 -- ---- programs
 

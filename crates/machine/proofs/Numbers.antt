@@ -18,20 +18,20 @@ use Rattle.image.specs.Program.{Program, Operand, variable, literal, Slot, func
 use Rattle.memory.specs.Memory as Memory
 use Rattle.memory.specs.Live.{Live}
 use Rattle.memory.specs.Memory.{Memory, Back, Frame, Pointer, constant, local, pointerAt, liveCount, liveBytes, allocate, constantAddress, offsetAt, offsetBy, readConstant, readAt, readBytes, writeAt, writeBytes, pushFrame}
-use Rattle.eval.specs.Machine.{Machine, Vars, Stepped, went, ended, valueOf, asPointer, pointerOf, setFrom, setArguments, asVariable, valueIf, setReturned, makeSlots, sets₁, sets₂, leave, execute, step, Ran, stopped, after, runFrom, run, stepOnce, hostAllocate, hostWrite, hostRead, start, hostList}
-use Rattle.eval.specs.Believed.{believed}
-use Rattle.eval.specs.Entries.{enter}
-use Rattle.eval.specs.Asks.{Ask, toAllocate, toWrite, toRead, toStart, toStep, toRun, toList, Reply, ran, refusal, turn, changes, shows, steps, goes, lays, ask}
-use Rattle.eval.specs.History.{among}
-use Rattle.eval.specs.Accepted.{accepted}
-use Rattle.eval.specs.Sound.{all, sound}
-use Rattle.eval.specs.Promises.{room, access, instructionNumbers, stepNumbers, entryNumbers, EntriesGive, RunsStopWith}
-use Rattle.eval.proofs.Agree.{need-ok, ok-inj}
-use Rattle.eval.proofs.Initialize.{granted}
-use Rattle.eval.proofs.Values.{Keeps, kept}
-use Rattle.eval.proofs.Kept.{Held, HeldStep, held-went, held-ended, step-held}
-use Rattle.eval.proofs.SoundMemory.{later-same, sounds-kept}
-use Rattle.eval.proofs.Sound.{sound-held, sound-root}
+use Rattle.machine.specs.Machine.{Machine, Vars, Stepped, went, ended, valueOf, asPointer, pointerOf, setFrom, setArguments, asVariable, valueIf, setReturned, makeSlots, sets₁, sets₂, leave, execute, step, Ran, stopped, after, runFrom, run, stepOnce, hostAllocate, hostWrite, hostRead, start, hostList}
+use Rattle.machine.specs.Believed.{believed}
+use Rattle.machine.specs.Entries.{enter}
+use Rattle.machine.specs.Asks.{Ask, toAllocate, toWrite, toRead, toStart, toStep, toRun, toList, Reply, ran, refusal, turn, changes, shows, steps, goes, lays, ask}
+use Rattle.machine.specs.History.{among}
+use Rattle.machine.specs.Accepted.{accepted}
+use Rattle.machine.specs.Sound.{all, sound}
+use Rattle.machine.specs.Promises.{room, access, instructionNumbers, stepNumbers, entryNumbers, EntriesGive, RunsStopWith}
+use Rattle.machine.proofs.Agree.{need-ok, ok-inj}
+use Rattle.machine.proofs.Initialize.{granted}
+use Rattle.machine.proofs.Values.{Keeps, kept}
+use Rattle.machine.proofs.Kept.{Held, HeldStep, held-went, held-ended, step-held}
+use Rattle.machine.proofs.SoundMemory.{later-same, sounds-kept}
+use Rattle.machine.proofs.Sound.{sound-held, sound-root}
 
 -- an answer, or a refusal with one of these numbers
 pub data Only {A : Type 0} (ns : List ℕ) : Answer A → Type 0 where

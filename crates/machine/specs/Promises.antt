@@ -11,14 +11,14 @@ use Rattle.value.specs.Answer.{ok}
 use Rattle.value.specs.Value.{Value}
 use Rattle.image.specs.Program.{Program, Instruction, Jump, Switch, Assign, ConstantAddress, Call, Return, IntCmp′, FloatCmp′, Add, Sub, Mul, Div, Mod, FDiv, Not, Negate, Offset, Initialize, Write, Read, Copy, Drop}
 use Rattle.memory.specs.Memory.{Memory}
-use Rattle.eval.specs.Machine.{Machine, ended, stopped, step, runFrom}
-use Rattle.eval.specs.Believed.{believed}
-use Rattle.eval.specs.Sound.{sound}
-use Rattle.eval.specs.Accepted.{accepted, acceptedAsk}
-use Rattle.eval.specs.Asks.{Ask, toAllocate, toWrite, toRead, toStart, toStep, toRun, toList, refusal, ran}
-use Rattle.eval.specs.Entries.{enter}
-use Rattle.eval.specs.History.{among}
-use Rattle.eval.specs.Count.{Means}
+use Rattle.machine.specs.Machine.{Machine, ended, stopped, step, runFrom}
+use Rattle.machine.specs.Believed.{believed}
+use Rattle.machine.specs.Sound.{sound}
+use Rattle.machine.specs.Accepted.{accepted, acceptedAsk}
+use Rattle.machine.specs.Asks.{Ask, toAllocate, toWrite, toRead, toStart, toStep, toRun, toList, refusal, ran}
+use Rattle.machine.specs.Entries.{enter}
+use Rattle.machine.specs.History.{among}
+use Rattle.machine.specs.Count.{Means}
 
 -- "A refusal leaves state and lent buffers untouched, except that a run keeps the steps done before it."
 abbrev pub RefusedChangesNothing : Type 0

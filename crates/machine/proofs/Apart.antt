@@ -9,7 +9,7 @@ use mathlib.Core.List.{List, [], _∷_}
 use lib.ListN.{length, getD, take, drop, length-append, List·getD-append}
 use lib.Seq.{getD-append-add, take-append-seam, drop-append-add}
 use Rattle.memory.specs.Memory.{Frame, bytesAt}
-use Rattle.eval.specs.Flat.{flat, startOf, allOf, rankOf, placeOf, Lives, Before}
+use Rattle.machine.specs.Flat.{flat, startOf, allOf, rankOf, placeOf, Lives, Before}
 
 in-order : (ls : List (List ℕ)) (k k′ : ℕ) → k < k′ → k < length ls → startOf ls k + length (getD ls k []) ≤ startOf ls k′
 unfolding startOf

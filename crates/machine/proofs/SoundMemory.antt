@@ -15,11 +15,11 @@ use mir.Facts.{and-yes, yes-and}
 use Rattle.value.specs.Answer.{Answer, pick}
 use Rattle.memory.specs.Memory.{Memory, Back, Frame, Pointer, constant, local, noFrame, frameAt, pointerAt, top, stands, bytesAt, sum, liveCount, liveBytes, withPointer, withFrames, withAllocations, allocated, allocate, constantAddress, access, overwrite, written, writeAt, writeBytes, readConstant, readAt, readBytes, offsetAt, offsetBy, pushed, pushFrame, popped, popFrame}
 use Rattle.memory.specs.Sound.{rising, goodBack, goodBacks, soundMemory}
-use Rattle.eval.specs.Sound.{all, areBytes, bytesIn}
-use Rattle.eval.specs.Believed.{believed}
-use Rattle.eval.proofs.Agree.{ids, id-at, length-snoc}
-use Rattle.eval.proofs.Values.{Bytes, Keeps, kept, no-answer, keeps-need}
-use Rattle.eval.proofs.Kept.{Kept, Popping, at-root, back-to}
+use Rattle.machine.specs.Sound.{all, areBytes, bytesIn}
+use Rattle.machine.specs.Believed.{believed}
+use Rattle.machine.proofs.Agree.{ids, id-at, length-snoc}
+use Rattle.machine.proofs.Values.{Bytes, Keeps, kept, no-answer, keeps-need}
+use Rattle.machine.proofs.Kept.{Kept, Popping, at-root, back-to}
 
 -- ---- sums over a list
 

@@ -12,11 +12,11 @@ use Rattle.value.specs.Answer.{Answer, ok, need, pick}
 use Rattle.memory.specs.Memory.{Memory, Back, Frame, Pointer, constant, local, top, sum, frameAt, pointerAt, stands, written, popped, allocate, liveCount, liveBytes, writeAt, writeBytes, offsetAt, offsetBy, constantAddress, pushFrame, popFrame, livePointer, liveList}
 use Rattle.memory.specs.Live.{listed}
 use mir.Facts.{and-yes, yes-and}
-use Rattle.eval.specs.History.{History, Made, madeIn, noBack, targetOf, topFrame, among, next, offset, address, lessTop, moved, toldCount, toldBytes, tellAllocation, tellAddress, tellStoreAt, tellStore, tellOffsetAt, tellOffset, tellCall, tellReturn, toldPointer, toldList}
-use Rattle.eval.specs.Alike.{Alike, both-ok, both-refused, Back-alike, both-root, both-back, Likened}
-use Rattle.eval.specs.Believed.{believed}
-use Rattle.eval.specs.Recalled.{recalled}
-use Rattle.eval.proofs.Agree.{Sim, Homed, forget, contents, ids, id-at, need-yes, fresh-agrees, give, push, pop, access-agrees, target-at, same-length, read-agrees, allocate-agrees, write-at, length-contents, Levelled, stands-among, allocations-at, bool-iff}
+use Rattle.machine.specs.History.{History, Made, madeIn, noBack, targetOf, topFrame, among, next, offset, address, lessTop, moved, toldCount, toldBytes, tellAllocation, tellAddress, tellStoreAt, tellStore, tellOffsetAt, tellOffset, tellCall, tellReturn, toldPointer, toldList}
+use Rattle.machine.specs.Alike.{Alike, both-ok, both-refused, Back-alike, both-root, both-back, Likened}
+use Rattle.machine.specs.Believed.{believed}
+use Rattle.machine.specs.Recalled.{recalled}
+use Rattle.machine.proofs.Agree.{Sim, Homed, forget, contents, ids, id-at, need-yes, fresh-agrees, give, push, pop, access-agrees, target-at, same-length, read-agrees, allocate-agrees, write-at, length-contents, Levelled, stands-among, allocations-at, bool-iff}
 
 alike-same : {A B : Type 0} (R : A → B → Type 0) (b c : Bool) (n : ℕ) (x : Answer A) (y : Answer B) → b ≡ c → (T c → Alike R x y) → Alike R (need b n x) (need c n y)
 unfolding need

@@ -16,19 +16,19 @@ use Rattle.value.specs.Answer.{Answer, ok, refused, need}
 use Rattle.image.specs.Program.{Program}
 use Rattle.memory.specs.Memory.{Memory, Pointer, constant, local, divides, stands, frameAt, pointerAt, access, readAt, readBytes, writeAt, writeBytes, readConstant}
 use Rattle.memory.specs.Live.{Live}
-use Rattle.eval.specs.Machine.{Machine, fresh, hostRead, hostList}
-use Rattle.eval.specs.Believed.{believed}
-use Rattle.eval.specs.Accepted.{acceptedAsk}
-use Rattle.eval.specs.Asks.{Ask, toRead, toList, Reply, bytes, refusal, Turn, shows, lays, ask}
-use Rattle.eval.specs.History.{History, Made, Target, ofConstant, ofPlace, madeIn, nothing, madeAt, storedIn, storedAt, targetOf, among, bytesFrom, told, toldAt, withMade, StandsFor, Open, Ended}
-use Rattle.eval.specs.Flat.{Lives}
-use Rattle.eval.specs.Demand.{Accepted, stateAfter, tells, reply, RepliesAreTold, AlwaysSound, Right, of-constant, of-place, GrantedExactlyWhenRight, BytesAreLastStored, BytesOfConstants, Why, never-given, ended, too-long, uneven, not-here, past-constant, RefusedWithItsNumber, GoneExactlyWhenEnded, ExtentsApart, WritesStayApart, ListingIsTold, RefusedEverAfter}
-use Rattle.eval.proofs.Agree.{Sim, Home, Homed, forget, find, need-yes, length-first, getD-first, read-agrees, target-at, same-length, stands-among, write-agrees}
-use Rattle.eval.proofs.Apart.{apart}
-use Rattle.eval.proofs.Lift.{replies-alike, fresh-alike, following-alike, memories-alike}
-use Rattle.eval.proofs.Recalled.{likened, list-agrees}
-use Rattle.eval.proofs.SoundMemory.{Later}
-use Rattle.eval.proofs.Sound.{fresh-sound, entered, onwards-sound, onwards-following, onwards-append, answers-replies, all-append}
+use Rattle.machine.specs.Machine.{Machine, fresh, hostRead, hostList}
+use Rattle.machine.specs.Believed.{believed}
+use Rattle.machine.specs.Accepted.{acceptedAsk}
+use Rattle.machine.specs.Asks.{Ask, toRead, toList, Reply, bytes, refusal, Turn, shows, lays, ask}
+use Rattle.machine.specs.History.{History, Made, Target, ofConstant, ofPlace, madeIn, nothing, madeAt, storedIn, storedAt, targetOf, among, bytesFrom, told, toldAt, withMade, StandsFor, Open, Ended}
+use Rattle.machine.specs.Flat.{Lives}
+use Rattle.machine.specs.Demand.{Accepted, stateAfter, tells, reply, RepliesAreTold, AlwaysSound, Right, of-constant, of-place, GrantedExactlyWhenRight, BytesAreLastStored, BytesOfConstants, Why, never-given, ended, too-long, uneven, not-here, past-constant, RefusedWithItsNumber, GoneExactlyWhenEnded, ExtentsApart, WritesStayApart, ListingIsTold, RefusedEverAfter}
+use Rattle.machine.proofs.Agree.{Sim, Home, Homed, forget, find, need-yes, length-first, getD-first, read-agrees, target-at, same-length, stands-among, write-agrees}
+use Rattle.machine.proofs.Apart.{apart}
+use Rattle.machine.proofs.Lift.{replies-alike, fresh-alike, following-alike, memories-alike}
+use Rattle.machine.proofs.Recalled.{likened, list-agrees}
+use Rattle.machine.proofs.SoundMemory.{Later}
+use Rattle.machine.proofs.Sound.{fresh-sound, entered, onwards-sound, onwards-following, onwards-append, answers-replies, all-append}
 
 -- ---- after any asks
 

@@ -9,9 +9,9 @@ use lib.Dec.{ltb, leb}
 use Rattle.value.specs.Value.{Value, char, same}
 use Rattle.value.specs.Tags.{holds}
 use Rattle.image.specs.Program.{Program, Operand, variable, literal, Declared, code, Instruction, Jump, Switch, Assign, ConstantAddress, Call, Return, IntCmp′, FloatCmp′, Add, Sub, Mul, Div, Mod, FDiv, Not, Negate, Offset, Initialize, Write, Read, Copy, Drop}
-use Rattle.eval.specs.Machine.{asVariable}
-use Rattle.eval.specs.Sound.{all, areBytes}
-use Rattle.eval.specs.Asks.{Ask, toAllocate, toWrite, toRead, toStart, toStep, toRun, toList}
+use Rattle.machine.specs.Machine.{asVariable}
+use Rattle.machine.specs.Sound.{all, areBytes}
+use Rattle.machine.specs.Asks.{Ask, toAllocate, toWrite, toRead, toStart, toStep, toRun, toList}
 
 unfoldable pub goodOperand : (count : ℕ) → Operand → Bool
 goodOperand n (variable x) = ltb x n

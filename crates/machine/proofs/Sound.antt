@@ -14,19 +14,19 @@ use Rattle.value.specs.Refusal.{notSound}
 use Rattle.value.specs.Answer.{pick}
 use Rattle.memory.specs.Memory as Memory
 use Rattle.memory.specs.Memory.{Memory, liveCount, liveBytes, sum}
-use Rattle.eval.specs.Machine.{Machine, Vars, fresh}
-use Rattle.eval.specs.Believed.{believed}
+use Rattle.machine.specs.Machine.{Machine, Vars, fresh}
+use Rattle.machine.specs.Believed.{believed}
 use Rattle.value.specs.Value.{Value, value, Kind, bool, u8, u16, u32, u64, i8, i16, i32, i64, f32, f64, char, asn, pointer, tag, size, isBadChar, isScalar}
 use Rattle.value.specs.Tags.{holds}
 use Rattle.value.proofs.Roundtrip.{scalar-small}
 use Rattle.memory.specs.Stored.{greatest}
 use Rattle.memory.specs.Sound.{rising, goodVar, goodBack, goodBacks, goodValue, goodVars, soundMemory, soundMachine, inKind, typed}
-use Rattle.eval.specs.Sound.{all, bytesIn, sound}
-use Rattle.eval.specs.Accepted.{acceptedAsk}
-use Rattle.eval.specs.Asks.{Ask, Reply, refusal, turn, ask, replies, following}
-use Rattle.eval.specs.Entries.{enter, answers, onwards}
-use Rattle.eval.proofs.Kept.{GoodIf, Held, ask-held}
-use Rattle.eval.proofs.SoundMemory.{sound-solid, solid-sound, Later, later-same, later-then, sounds-kept}
+use Rattle.machine.specs.Sound.{all, bytesIn, sound}
+use Rattle.machine.specs.Accepted.{acceptedAsk}
+use Rattle.machine.specs.Asks.{Ask, Reply, refusal, turn, ask, replies, following}
+use Rattle.machine.specs.Entries.{enter, answers, onwards}
+use Rattle.machine.proofs.Kept.{GoodIf, Held, ask-held}
+use Rattle.machine.proofs.SoundMemory.{sound-solid, solid-sound, Later, later-same, later-then, sounds-kept}
 
 pub fresh-sound : T (sound (fresh believed))
 unfolding sound soundMachine soundMemory bytesIn all rising goodBacks goodBack goodVar goodVars goodValue typed inKind Memory.fresh sum liveCount liveBytes fresh

@@ -18,7 +18,7 @@ use Rattle.value.specs.Value.{Value, value, Kind, bool, u8, u16, u32, u64, i8, 
 use Rattle.value.specs.Divide.{divideBits}
 use Rattle.value.specs.Tags.{holds}
 use Rattle.value.proofs.Fields.{divide-is}
-use Rattle.eval.specs.Sound.{all, areBytes}
+use Rattle.machine.specs.Sound.{all, areBytes}
 
 -- ---- answers that keep what is asked of them
 

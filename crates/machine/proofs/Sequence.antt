@@ -5,18 +5,18 @@ use Rattle.value.specs.Value.{kindOf, tag, size, family, isScalar, isBadChar, l
 use Rattle.image.specs.Program.{flatten}
 use Rattle.memory.specs.Memory as Memory
 use Rattle.memory.specs.Memory.{sum, liveCount, liveBytes, allocate, access, writeAt, writeBytes, readConstant, readAt, readBytes, offsetAt, offsetBy, constantAddress, pushFrame, popFrame, livePointer, liveList}
-use Rattle.eval.specs.Machine as M
-use Rattle.eval.specs.Believed.{believed}
-use Rattle.eval.specs.Recalled.{recalled}
+use Rattle.machine.specs.Machine as M
+use Rattle.machine.specs.Believed.{believed}
+use Rattle.machine.specs.Recalled.{recalled}
 use Rattle.memory.specs.Sound.{rising, goodVar, goodBack, goodBacks, goodValue, goodVars, soundMemory, soundMachine, inKind, typed}
-use Rattle.eval.specs.Sound.{all, bytesIn, sound}
+use Rattle.machine.specs.Sound.{all, bytesIn, sound}
 use Rattle.value.specs.Tags.{holds}
-use Rattle.eval.specs.Accepted.{given, goodOperand, goodOptional, goodTo, goodInstruction, accepted, acceptedAsk}
-use Rattle.eval.specs.Asks.{changes, shows, steps, goes, lays, ask, replies}
-use Rattle.eval.specs.Entries.{enter, answers}
-use Rattle.eval.specs.Demand.{Accepted}
-use Rattle.eval.specs.Sequence.{asked, answered}
-use Rattle.eval.proofs.Demand.{replies-are-told}
+use Rattle.machine.specs.Accepted.{given, goodOperand, goodOptional, goodTo, goodInstruction, accepted, acceptedAsk}
+use Rattle.machine.specs.Asks.{changes, shows, steps, goes, lays, ask, replies}
+use Rattle.machine.specs.Entries.{enter, answers}
+use Rattle.machine.specs.Demand.{Accepted}
+use Rattle.machine.specs.Sequence.{asked, answered}
+use Rattle.machine.proofs.Demand.{replies-are-told}
 
 pub asked-accepted : Accepted asked
 unfolding asked all given holds goodOperand goodOptional goodTo goodInstruction accepted acceptedAsk flatten tag M.asVariable

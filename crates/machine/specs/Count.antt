@@ -5,7 +5,7 @@ use mathlib.Core.Option.{Option}
 use Rattle.value.specs.Answer.{ok, refused}
 use Rattle.value.specs.Value.{Value}
 use Rattle.image.specs.Program.{Program}
-use Rattle.eval.specs.Machine.{Memories, Machine, went, ended, returned, paused, stopped, Ran, step}
+use Rattle.machine.specs.Machine.{Memories, Machine, went, ended, returned, paused, stopped, Ran, step}
 
 module _ {M : Type 0} (mem : Memories M) (P : Program) where
   -- n steps lead from one machine to the other, and each goes on

@@ -7,8 +7,8 @@ use mathlib.Core.List.{List, [], _∷_, _++_, map, append-assoc, append-nil}
 use lib.ListN.{length, getD, take, drop, set, replicate, length-append, length-drop}
 use lib.Seq.{take-append-le, drop-append-le, take-append-add, drop-append-add, set-append-left, take-append-seam, drop-append-seam, take-add}
 use Rattle.memory.specs.Memory.{Frame, frameAt, bytesAt, withAllocations, overwrite, sum, liveCount, liveBytes}
-use Rattle.eval.specs.Flat.{flat, startOf, allOf, rankOf, placeOf, Lives, cut}
-use Rattle.eval.proofs.Apart.{rank-at}
+use Rattle.machine.specs.Flat.{flat, startOf, allOf, rankOf, placeOf, Lives, cut}
+use Rattle.machine.proofs.Apart.{rank-at}
 
 -- ---- lists of lists
 

@@ -11,7 +11,7 @@ use mir.Facts.{yes-and}
 use Rattle.value.specs.Refusal.{beyondLength, frameGone, misaligned, noAllocation, notGivenOut}
 use Rattle.value.specs.Answer.{ok}
 use Rattle.memory.specs.Memory.{Memory, Frame, Pointer, constant, local, divides, noFrame, frameAt, stands, bytesAt, access, written, withAllocations, allocated, writeAt, writeBytes}
-use Rattle.eval.proofs.Agree.{need-yes, length-snoc}
+use Rattle.machine.proofs.Agree.{need-yes, length-snoc}
 
 module _ (m : Memory) (n : ℕ) (bs : List ℕ) (root : 0 < length (m .frames)) (fit : length bs ≤ n) where
   pub granted : writeBytes (allocated m n) (length (m .pointers)) bs

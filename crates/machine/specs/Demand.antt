@@ -10,15 +10,15 @@ use Rattle.value.specs.Refusal.{notGivenOut, frameGone, beyondLength, misaligne
 use Rattle.value.specs.Answer.{ok, refused}
 use Rattle.image.specs.Program.{Program}
 use Rattle.memory.specs.Memory.{Memory, readBytes, writeBytes}
-use Rattle.eval.specs.Machine.{Machine, fresh}
-use Rattle.eval.specs.Believed.{believed}
-use Rattle.eval.specs.Sound.{all, sound}
-use Rattle.eval.specs.Accepted.{acceptedAsk}
-use Rattle.eval.specs.Asks.{Ask, toRead, toList, Reply, bytes, lists, refusal, replies, following}
-use Rattle.eval.specs.Entries.{enter, answers, onwards}
-use Rattle.eval.specs.History.{History, ofConstant, ofPlace, madeIn, madeAt, StandsFor, Open, Ended, toldList}
-use Rattle.eval.specs.Recalled.{recalled}
-use Rattle.eval.specs.Flat.{Before}
+use Rattle.machine.specs.Machine.{Machine, fresh}
+use Rattle.machine.specs.Believed.{believed}
+use Rattle.machine.specs.Sound.{all, sound}
+use Rattle.machine.specs.Accepted.{acceptedAsk}
+use Rattle.machine.specs.Asks.{Ask, toRead, toList, Reply, bytes, lists, refusal, replies, following}
+use Rattle.machine.specs.Entries.{enter, answers, onwards}
+use Rattle.machine.specs.History.{History, ofConstant, ofPlace, madeIn, madeAt, StandsFor, Open, Ended, toldList}
+use Rattle.machine.specs.Recalled.{recalled}
+use Rattle.machine.specs.Flat.{Before}
 
 abbrev pub Accepted : List Ask → Type 0
 Accepted as′ = T (all acceptedAsk as′)

@@ -1,6 +1,6 @@
 -- The machine over the believed memory.
 use Rattle.memory.specs.Memory.{Memory, fresh, allocate, constantAddress, offsetBy, readBytes, writeBytes, pushFrame, popFrame, liveList}
-use Rattle.eval.specs.Machine.{Memories}
+use Rattle.machine.specs.Machine.{Memories}
 use lib.ListN.{length}
 
 abbrev pub believed : Memories Memory

@@ -5,7 +5,7 @@ use mathlib.Core.Option.{Option}
 use Rattle.value.specs.Answer.{Answer, ok, refused}
 use Rattle.value.specs.Value.{Value}
 use Rattle.image.specs.Program.{Program}
-use Rattle.eval.specs.Machine.{Memories, Machine, Stepped, went, ended, Outcome, Ran, hostAllocate, hostWrite, hostRead, start, stepOnce, run, hostList}
+use Rattle.machine.specs.Machine.{Memories, Machine, Stepped, went, ended, Outcome, Ran, hostAllocate, hostWrite, hostRead, start, stepOnce, run, hostList}
 use Rattle.memory.specs.Live.{Live}
 
 pub data Ask : Type 0 where

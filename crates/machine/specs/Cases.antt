@@ -9,8 +9,8 @@ use Rattle.value.specs.Refusal.{wrongKinds, outsideWidth, frameGone, beyondLeng
 use Rattle.value.specs.Value.{Value, value, Eq, IrType, bool, u8, u32, u64, i8, pointer, tag, size}
 use Rattle.image.specs.Program.{Program, Operand, variable, literal, Slot, Item, Function, Instruction, Switch, Assign, Call, Return, IntCmp′, Add, Mul, Div, Mod, Negate, Offset, Initialize, Write, Read, Copy}
 use Rattle.memory.specs.Memory.{fresh}
-use Rattle.eval.specs.Machine as M
-use Rattle.eval.specs.Machine.{Memories, Outcome, returned, paused, stopped, Ran}
+use Rattle.machine.specs.Machine as M
+use Rattle.machine.specs.Machine.{Memories, Outcome, returned, paused, stopped, Ran}
 
 -- ---- a case
 

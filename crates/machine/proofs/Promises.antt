@@ -11,15 +11,15 @@ use Rattle.value.specs.Value.{Value}
 use Rattle.image.specs.Program.{Program, Operand, Instruction, Jump, Switch, Assign, ConstantAddress, Call, Return, IntCmp′, FloatCmp′, Add, Sub, Mul, Div, Mod, FDiv, Not, Negate, Offset, Initialize, Write, Read, Copy, Drop}
 use Rattle.memory.specs.Memory.{Memory, Back}
 use Rattle.memory.specs.Live.{Live}
-use Rattle.eval.specs.Machine.{Machine, Stepped, went, ended, Ran, sets₁, sets₂, leave, execute, step}
-use Rattle.eval.specs.Believed.{believed}
-use Rattle.eval.specs.Sound.{sound}
-use Rattle.eval.specs.Asks.{Ask, toAllocate, toWrite, toRead, toStart, toStep, toRun, toList, Reply, refusal, turn, changes, shows, steps, goes, lays, ask}
-use Rattle.eval.specs.Entries.{enter}
-use Rattle.eval.specs.Promises.{RefusedChangesNothing, KeepsSound, CountIsSteps, ReturnedStays}
-use Rattle.eval.proofs.Values.{Keeps, kept, keeps-need, keeps-after}
-use Rattle.eval.proofs.Sound.{enter-sound}
-use Rattle.eval.proofs.Count.{run-means}
+use Rattle.machine.specs.Machine.{Machine, Stepped, went, ended, Ran, sets₁, sets₂, leave, execute, step}
+use Rattle.machine.specs.Believed.{believed}
+use Rattle.machine.specs.Sound.{sound}
+use Rattle.machine.specs.Asks.{Ask, toAllocate, toWrite, toRead, toStart, toStep, toRun, toList, Reply, refusal, turn, changes, shows, steps, goes, lays, ask}
+use Rattle.machine.specs.Entries.{enter}
+use Rattle.machine.specs.Promises.{RefusedChangesNothing, KeepsSound, CountIsSteps, ReturnedStays}
+use Rattle.machine.proofs.Values.{Keeps, kept, keeps-need, keeps-after}
+use Rattle.machine.proofs.Sound.{enter-sound}
+use Rattle.machine.proofs.Count.{run-means}
 
 pub keeps-sound : KeepsSound
 keeps-sound a s t u = enter-sound a s t u .0

@@ -12,10 +12,10 @@ use Rattle.value.specs.Answer.{Answer, ok, refused, need, _>>=_}
 use Rattle.value.specs.Value.{Value, value, pointer, kindOf, size, bytesOf}
 use Rattle.image.specs.Program.{Program, Operand, Slot, functionAt, Instruction, Jump, Switch, Assign, ConstantAddress, Call, Return, IntCmp′, FloatCmp′, Add, Sub, Mul, Div, Mod, FDiv, Not, Negate, Offset, Initialize, Write, Read, Copy, Drop}
 use Rattle.memory.specs.Memory.{Back}
-use Rattle.eval.specs.Machine.{Memories, Vars, setTo, Machine, Stepped, went, ended, Outcome, Ran, setReturned, makeSlots, sets₁, sets₂, leave, execute, step, after, runFrom, run, stepOnce, fresh, hostAllocate, hostWrite, hostRead, start, hostList}
+use Rattle.machine.specs.Machine.{Memories, Vars, setTo, Machine, Stepped, went, ended, Outcome, Ran, setReturned, makeSlots, sets₁, sets₂, leave, execute, step, after, runFrom, run, stepOnce, fresh, hostAllocate, hostWrite, hostRead, start, hostList}
 use Rattle.memory.specs.Live.{Live}
-use Rattle.eval.specs.Alike.{Alike, both-ok, both-refused, Back-alike, both-root, both-back, Likened}
-use Rattle.eval.specs.Asks.{Ask, toAllocate, toWrite, toRead, toStart, toStep, toRun, toList, Reply, Turn, changes, shows, steps, goes, lays, ask, replies, following}
+use Rattle.machine.specs.Alike.{Alike, both-ok, both-refused, Back-alike, both-root, both-back, Likened}
+use Rattle.machine.specs.Asks.{Ask, toAllocate, toWrite, toRead, toStart, toStep, toRun, toList, Reply, Turn, changes, shows, steps, goes, lays, ask, replies, following}
 
 -- ---- answers that are alike
 

@@ -5,8 +5,8 @@ use native.Mathlib.Omega.{arith}
 use mathlib.Core.Path.{_≡_, refl, subst}
 use Rattle.value.specs.Answer.{Answer, ok, refused}
 use Rattle.image.specs.Program.{Program}
-use Rattle.eval.specs.Machine.{Memories, Machine, Stepped, went, ended, step, after, runFrom}
-use Rattle.eval.specs.Count.{Took, none-taken, one-taken, Means, pauses, returns, refuses}
+use Rattle.machine.specs.Machine.{Memories, Machine, Stepped, went, ended, step, after, runFrom}
+use Rattle.machine.specs.Count.{Took, none-taken, one-taken, Means, pauses, returns, refuses}
 
 module _ {M : Type 0} (mem : Memories M) (P : Program) where
   -- one more step at the end

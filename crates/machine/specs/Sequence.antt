@@ -6,8 +6,8 @@ use Rattle.value.specs.Refusal.{frameGone}
 use Rattle.value.specs.Value.{IrType, value, bool, u32}
 use Rattle.image.specs.Program.{Program, variable, literal, Call, Return, Write}
 use Rattle.memory.specs.Live.{listed}
-use Rattle.eval.specs.Asks.{Ask, toStart, toStep, toRead, toList, Reply, done, bytes, lists, refusal}
-use Rattle.eval.specs.Cases.{plain, of}
+use Rattle.machine.specs.Asks.{Ask, toStart, toStep, toRead, toList, Reply, done, bytes, lists, refusal}
+use Rattle.machine.specs.Cases.{plain, of}
 
 -- the function 0, with a slot in the variable 3, calls 1 and then 2, which have a slot each; 1 stores 7 in its own slot and 9 in its caller's
 abbrev pub handsBack : Program

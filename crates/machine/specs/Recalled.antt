@@ -1,6 +1,6 @@
 -- The machine over what the sequence tells: the same step, with no id and no store.
-use Rattle.eval.specs.Machine.{Memories}
-use Rattle.eval.specs.History.{History, beginning, told, tellAllocation, tellAddress, tellOffset, tellStore, tellCall, tellReturn, toldList}
+use Rattle.machine.specs.Machine.{Memories}
+use Rattle.machine.specs.History.{History, beginning, told, tellAllocation, tellAddress, tellOffset, tellStore, tellCall, tellReturn, toldList}
 use lib.ListN.{length}
 
 abbrev pub recalled : Memories History

@@ -3,10 +3,10 @@ use mathlib.Core.List.{List, [], _∷_}
 use Rattle.value.specs.Refusal as Refusal
 use Rattle.value.specs.Answer.{pick}
 use Rattle.memory.specs.Memory.{Memory}
-use Rattle.eval.specs.Machine.{Machine}
-use Rattle.eval.specs.Sound.{sound}
-use Rattle.eval.specs.Believed.{believed}
-use Rattle.eval.specs.Asks.{Ask, Reply, refusal, Turn, turn, ask}
+use Rattle.machine.specs.Machine.{Machine}
+use Rattle.machine.specs.Sound.{sound}
+use Rattle.machine.specs.Believed.{believed}
+use Rattle.machine.specs.Asks.{Ask, Reply, refusal, Turn, turn, ask}
 
 -- "10 state not sound", and else what is asked
 unfoldable pub enter : Ask → Machine Memory → Turn Memory

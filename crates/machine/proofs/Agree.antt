@@ -15,7 +15,7 @@ use mir.Facts.{and-yes, yes-and, or-yes}
 use Rattle.value.specs.Refusal.{beyondLength, frameGone, misaligned, noAllocation, notGivenOut}
 use Rattle.value.specs.Answer.{Answer, ok, refused, need}
 use Rattle.memory.specs.Memory.{Memory, Back, Frame, Pointer, constant, local, divides, fresh, noFrame, frameAt, pointerAt, stands, bytesAt, access, overwrite, withFrames, withAllocations, withPointer, allocated, pushed, popped, writeAt, writeBytes, readAt, readBytes}
-use Rattle.eval.specs.History.{allocation, call, Made, Target, ofConstant, ofPlace, History, noBack, beginning, madeIn, nothing, madeAt, targetOf, lastStored, storedIn, storedAt, among, first, bytesFrom, toldAt, told, withMade, withGiven, lessTop, next, Open}
+use Rattle.machine.specs.History.{allocation, call, Made, Target, ofConstant, ofPlace, History, noBack, beginning, madeIn, nothing, madeAt, targetOf, lastStored, storedIn, storedAt, among, first, bytesFrom, toldAt, told, withMade, withGiven, lessTop, next, Open}
 
 -- ---- answers
 

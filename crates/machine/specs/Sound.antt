@@ -5,7 +5,7 @@ use mathlib.Core.List.{List, [], _∷_}
 use lib.Dec.{ltb}
 use Rattle.memory.specs.Memory.{Memory, Frame}
 use Rattle.memory.specs.Sound.{soundMachine, typed}
-use Rattle.eval.specs.Machine.{Machine}
+use Rattle.machine.specs.Machine.{Machine}
 
 unfoldable pub all : {A : Type 0} → (A → Bool) → List A → Bool
 all f [] = true

@@ -1,0 +1,16 @@
+pub mod Agree
+pub mod Lift
+pub mod Recalled
+pub mod Apart
+pub mod Store
+pub mod Cases
+pub mod Count
+pub mod Initialize
+pub mod Values
+pub mod Kept
+pub mod SoundMemory
+pub mod Sound
+pub mod Demand
+pub mod Sequence
+pub mod Numbers
+pub mod Promises

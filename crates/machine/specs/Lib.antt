@@ -1,0 +1,15 @@
+pub mod Machine
+pub mod Believed
+pub mod Sound
+pub mod Asks
+pub mod Accepted
+pub mod Entries
+pub mod Count
+pub mod Cases
+pub mod History
+pub mod Recalled
+pub mod Flat
+pub mod Alike
+pub mod Demand
+pub mod Sequence
+pub mod Promises
