@@ -5,3 +5,10 @@ pub mod Unique
 pub mod Laws
 pub mod Tests
 pub mod Shapes
+pub mod Parts
+pub mod Standing
+pub mod Spells
+pub mod Plain
+pub mod Writes
+pub mod Takes
+pub mod Loads

@@ -8,6 +8,7 @@ use lib.ListN.{length}
 use borrow.Author.Tests.{le-leb, lt-leb}
 use Rattle.value.specs.Refusal.{bytesRunOut, leftOver}
 use Rattle.value.specs.Value.{isScalar}
+use Rattle.value.specs.Tags.{typeOfKind}
 use Rattle.image.specs.Fields.{raw, atEnd}
 use Rattle.image.specs.Answer.{walk, isType}
 use Rattle.image.specs.declared.field.Step.{Step}
@@ -31,7 +32,7 @@ module _ (v : ℕ) where
   scalar-above g h k = rw (lt-leb v 0xd7ff g, le-leb 0xe000 v h, lt-leb v 0x10ffff k)
 
 pub type-low : (v : ℕ) → 1 ≤ v → v ≤ 11 → isType v ≡ true
-unfolding isType
+unfolding isType typeOfKind
 type-low zero h k = absurd (omega arith)
 type-low (suc zero) h k = refl
 type-low (suc (suc zero)) h k = refl
@@ -47,11 +48,11 @@ type-low (suc (suc (suc (suc (suc (suc (suc (suc (suc (suc (suc zero))))))))))) 
 type-low (suc (suc (suc (suc (suc (suc (suc (suc (suc (suc (suc (suc n)))))))))))) h k = absurd (omega arith)
 
 pub type-pointer : (v : ℕ) → v ≡ 14 → isType v ≡ true
-unfolding isType
+unfolding isType typeOfKind
 type-pointer v e = rw e
 
 pub type-other : (v : ℕ) → (1 ≤ v → v ≤ 11 → ⊥) → (v ≡ 14 → ⊥) → isType v ≡ false
-unfolding isType
+unfolding isType typeOfKind
 type-other zero h k = refl
 type-other (suc (suc (suc (suc (suc (suc (suc (suc (suc (suc (suc (suc zero)))))))))))) h k = refl
 type-other (suc (suc (suc (suc (suc (suc (suc (suc (suc (suc (suc (suc (suc zero))))))))))))) h k = refl

@@ -1,18 +1,21 @@
--- Small images and what loading answers: P1's program, and each refusal from 1 to 6 with its place, as one list that is computed.
+-- Small images and what loading answers: P1's program, which is written as its image again, and each refusal from 1 to 6 with its place, as one list that is computed.
 use Prim.Native.Nat.{ℕ}
 use mathlib.Core.Bool.{Bool, true, false, _&&_}
-use mathlib.Core.List.{List, [], _∷_, map}
-use mathlib.Core.Option.{Option, none, some}
+use mathlib.Core.List.{List, [], _∷_}
+use mathlib.Core.Option.{none, some}
 use mathlib.Core.Path.{_≡_, refl}
 use lib.ListN.{take, replicate}
 use lib.Dec.{eqb}
 use Rattle.value.specs.Refusal.{bytesRunOut, malformed, unknown, overLimit, beyondCount, leftOver}
-use Rattle.value.specs.Value.{Kind, value, isScalar}
+use Rattle.value.specs.Value.{Kind, value, tag, isScalar}
+use Rattle.value.specs.Tags.{typeOfKind, holds}
 use Rattle.image.specs.Parse.{Got, took, refused, andThen, many, within}
-use Rattle.image.specs.Number.{groups, number}
+use Rattle.image.specs.Number.{groups, number, bytesOf, bytesFrom}
 use Rattle.image.specs.Fields.{such, known, optional, listOf, raw, bytes, atEnd}
-use Rattle.image.specs.Image.{fits, header, literalOf, u32, size, type, var, label, constant, callee, operand, slot, branch, declared, table, instruction, function, constants, blocks, whole, image, programOf, loaded}
-use Rattle.image.specs.Program.{Program, Operand, literal, Item, Function, Instruction, Add, Return}
+use Rattle.image.specs.Image.{header, literalOf, type, var, label, constant, operand, table, instruction, function, constants, blocks, whole, image, programOf, loaded}
+use Rattle.image.specs.Written.{pieces, written}
+use Rattle.image.specs.Written as W
+use Rattle.image.specs.Program.{Program, Operand, literal, Item, Add, Return}
 
 -- ---- P1
 
@@ -31,8 +34,13 @@ p1 = record {
 }
 
 pub p1-loads : loaded p1Image ≡ took p1 24
-unfolding loaded programOf image whole header constants function blocks instruction table operand literalOf fits var label optional listOf bytes raw atEnd known such many within number groups andThen
+unfolding loaded programOf image whole header constants function blocks instruction table operand literalOf holds var label optional listOf bytes raw atEnd known such many within number groups andThen
 p1-loads = refl
+
+-- written, it is its image again
+pub p1-written : written p1 ≡ p1Image
+unfolding written pieces W.function W.instruction tag bytesOf bytesFrom
+p1-written = refl
 
 -- ---- refusals
 
@@ -90,12 +98,15 @@ refusals =
     -- a jump to label 1, and a function's return variable, of none
     ∷ refusal (block (1 ∷ 0 ∷ 1 ∷ [])) beyondCount 7
     ∷ refusal (1 ∷ 0 ∷ 0 ∷ 1 ∷ 1 ∷ 0 ∷ 0 ∷ 0 ∷ []) beyondCount 7
+    -- 3 before 5: an operand of tag 15 with a variable of none, and IntCmp with comparison 10 and an operand of a variable of none
+    ∷ refusal (block (1 ∷ 21 ∷ 15 ∷ 9 ∷ [])) unknown 7
+    ∷ refusal (1 ∷ 1 ∷ 0 ∷ 0 ∷ 1 ∷ 1 ∷ 6 ∷ 0 ∷ 10 ∷ 0 ∷ 9 ∷ []) unknown 8
     -- an empty program and one byte more
     ∷ refusal (1 ∷ 0 ∷ 0 ∷ 0 ∷ 0 ∷ 9 ∷ []) leftOver 5
     ∷ []
 
 pub all-refused : allRefused refusals ≡ true
-unfolding allRefused refusedAs loaded programOf image whole header constants function blocks instruction table operand literalOf fits isScalar var label type optional listOf bytes raw atEnd known such many within number groups andThen
+unfolding typeOfKind allRefused refusedAs loaded programOf image whole header constants function blocks instruction table operand literalOf holds isScalar var label type optional listOf bytes raw atEnd known such many within number groups andThen
 all-refused = refl
 
 -- ---- P11

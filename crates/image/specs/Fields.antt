@@ -1,13 +1,13 @@
 -- The kinds of field that an image is made of, each by a number or by raw bytes. A refusal's place is "the first byte of the refused field".
 use Prim.Native.Nat.{ℕ, _+_}
-use mathlib.Core.Bool.{Bool, true, false}
-use mathlib.Core.List.{List, [], _∷_}
+use mathlib.Core.Bool.{Bool}
+use mathlib.Core.List.{List}
 use mathlib.Core.Option.{Option, none, some}
 use lib.ListN.{length, getD, take, drop}
 use lib.Dec.{ltb, leb, eqb}
 use Rattle.value.specs.Answer.{pick}
 use Rattle.value.specs.Refusal.{bytesRunOut, unknown, overLimit, leftOver}
-use Rattle.image.specs.Parse.{Got, took, refused, Field, andThen, give, many, _>>=_, _<$>_}
+use Rattle.image.specs.Parse.{Got, took, refused, Field, andThen, give, many, _<$>_, _>>=_}
 use Rattle.image.specs.Number.{number}
 
 -- what a number means, else it is unknown

@@ -1,16 +1,17 @@
 -- The grammar of an image, field by field in its order, and what it answers: the program, or the first refusal's number and place.
-use Prim.Native.Nat.{ℕ, zero, suc, _^_}
+use Prim.Native.Nat.{ℕ, _^_}
 use mathlib.Core.Bool.{Bool, true, false}
 use mathlib.Core.List.{List, [], _∷_, map}
 use mathlib.Core.Option.{Option, none, some}
 use lib.ListN.{length}
-use lib.Dec.{ltb, leb}
+use lib.Dec.{leb}
 use Rattle.value.specs.Answer.{pick}
 use Rattle.value.specs.Refusal.{unknown, overLimit, beyondCount}
-use Rattle.value.specs.Value.{Kind, IrType, IntCmp, FloatCmp, value, width, isScalar}
-use Rattle.image.specs.Parse.{Got, took, refused, Field, Placed, andThen, give, many, within, placed, _>>=_, _<$>_, one, two, three, four, five}
+use Rattle.value.specs.Value.{Kind, IrType, value}
+use Rattle.value.specs.Tags.{kinds, typeOfKind, holds, intCmps, floatCmps}
+use Rattle.image.specs.Parse.{Got, took, refused, Field, Placed, andThen, give, many, within, placed, _>>=_, one, two, three, four, five}
 use Rattle.image.specs.Number.{number}
-use Rattle.image.specs.Fields.{such, below, upTo, atMost, known, optional, listOf, raw, bytes, atEnd}
+use Rattle.image.specs.Fields.{such, below, atMost, known, optional, listOf, raw, bytes, atEnd}
 use Rattle.image.specs.Program.{Program, Operand, literal, Slot, Branch, Declared, Item, Function, Instruction, Jump, Switch, Assign, ConstantAddress, Call, Return, IntCmp′, FloatCmp′, Add, Sub, Mul, Div, Mod, FDiv, Not, Negate, Offset, Initialize, Write, Read, Copy, Drop}
 
 -- "counts of variables (0..256), constants (0..64), functions (0..64), blocks (0..512)"
@@ -27,37 +28,9 @@ pub record Image : Type 0 where
   pub functions : List (Placed Function)
   pub blocks : List (List (Placed Instruction))
 
--- "a value too large for its width or kind"; "Char is 0..D7FF or E000..10FFFF hex."
-unfoldable pub fits : Kind → ℕ → Bool
-fits Kind.bool b = leb b 1
-fits Kind.u8 b = ltb b (2 ^ 8)
-fits Kind.u16 b = ltb b (2 ^ 16)
-fits Kind.u32 b = ltb b (2 ^ 32)
-fits Kind.u64 b = ltb b (2 ^ 64)
-fits Kind.i8 b = ltb b (2 ^ 8)
-fits Kind.i16 b = ltb b (2 ^ 16)
-fits Kind.i32 b = ltb b (2 ^ 32)
-fits Kind.i64 b = ltb b (2 ^ 64)
-fits Kind.f32 b = ltb b (2 ^ 32)
-fits Kind.f64 b = ltb b (2 ^ 64)
-fits Kind.char b = isScalar b
-fits Kind.asn b = ltb b (2 ^ 32)
-fits Kind.pointer b = ltb b (2 ^ 64)
-
--- "1 Bool, 2 U8, 3 U16, 4 U32, 5 U64, 6 I8, 7 I16, 8 I32, 9 I64, 10 F32, 11 F64, 12 Char, 13 Asn, 14 Pointer"
-abbrev pub kinds : List Kind
-kinds = Kind.bool ∷ Kind.u8 ∷ Kind.u16 ∷ Kind.u32 ∷ Kind.u64 ∷ Kind.i8 ∷ Kind.i16 ∷ Kind.i32 ∷ Kind.i64 ∷ Kind.f32 ∷ Kind.f64 ∷ Kind.char ∷ Kind.asn ∷ Kind.pointer ∷ []
-
--- "A type is such a tag without 0, 12, 13."
+-- "A type is such a tag without 0, 12, 13": by position, as the kinds have their tags
 abbrev pub types : List (Option IrType)
-types = none ∷ some IrType.Boolean ∷ some IrType.U8 ∷ some IrType.U16 ∷ some IrType.U32 ∷ some IrType.U64 ∷ some IrType.I8 ∷ some IrType.I16 ∷ some IrType.I32 ∷ some IrType.I64 ∷ some IrType.F32 ∷ some IrType.F64 ∷ none ∷ none ∷ some IrType.Pointer ∷ []
-
--- "comparison in source order (0..9, 0..5)"
-abbrev pub intCmps : List (Option IntCmp)
-intCmps = some IntCmp.Eq ∷ some IntCmp.Ne ∷ some IntCmp.ULt ∷ some IntCmp.ULe ∷ some IntCmp.UGt ∷ some IntCmp.UGe ∷ some IntCmp.SLt ∷ some IntCmp.SLe ∷ some IntCmp.SGt ∷ some IntCmp.SGe ∷ []
-
-abbrev pub floatCmps : List (Option FloatCmp)
-floatCmps = some FloatCmp.FEq ∷ some FloatCmp.FNe ∷ some FloatCmp.FLt ∷ some FloatCmp.FLe ∷ some FloatCmp.FGt ∷ some FloatCmp.FGe ∷ []
+types = none ∷ map typeOfKind kinds
 
 abbrev pub versions : List (Option ℕ)
 versions = none ∷ some 1 ∷ []
@@ -90,8 +63,9 @@ module _ (s : List ℕ) where
     blocks ← atMost s 512
     give (record { variables = variables; constants = constants; functions = functions; blocks = blocks })
 
+  -- "a value too large for its width or kind"
   unfoldable pub literalOf : Kind → Field Operand
-  literalOf k = one (λ b. literal (value k b)) (such s (fits k) unknown)
+  literalOf k = one (λ b. literal (value k b)) (such s (holds k) unknown)
 
   -- "a u32"
   unfoldable pub u32 : Field ℕ

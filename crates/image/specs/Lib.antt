@@ -3,5 +3,8 @@ pub mod Parse
 pub mod Number
 pub mod Fields
 pub mod Image
+pub mod Written
+pub mod Limits
+pub mod Standing
 pub mod Cases
 pub mod Answer

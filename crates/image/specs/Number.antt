@@ -1,12 +1,11 @@
 -- "A number is groups of seven bits, low group first, top bit set on every byte but the last, shortest form only, at most 2^64 - 1."
 use Prim.Native.Nat.{ℕ, zero, suc, _+_, _-_, _*_, _/_, _%_}
 use mathlib.Core.List.{List, [], _∷_}
-use mathlib.Core.Path.{_≡_, refl}
 use lib.ListN.{length, getD}
 use lib.Dec.{ltb, leb, eqb}
 use Rattle.value.specs.Answer.{pick}
 use Rattle.value.specs.Refusal.{bytesRunOut, malformed}
-use Rattle.image.specs.Parse.{Got, took, refused, Field}
+use Rattle.image.specs.Parse.{took, refused, Field}
 
 -- The groups of a number from `at` on: `left` bytes may have their top bit set, the next group weighs `weight`, and `sum` is
 -- what the groups before it make. Nine groups weigh 2^63 together, so a tenth byte can only be 1; and only the number 0 ends in a byte 0.

@@ -1,6 +1,6 @@
 -- A program, as an image gives it: its constants, its functions and its blocks of instructions.
 use Prim.Native.Nat.{ℕ, _+_}
-use mathlib.Core.Bool.{Bool, true, false}
+use mathlib.Core.Bool.{Bool, false}
 use mathlib.Core.List.{List, [], _∷_, _++_}
 use mathlib.Core.Option.{Option}
 use lib.ListN.{length, getD, take}

@@ -18,23 +18,25 @@ use Rattle.image.specs.declared.number.Number.the-variants.{Value, Bad}
 use Rattle.image.specs.declared.number.Written.{Written}
 use Rattle.image.specs.declared.field.Step.{Step}
 use Rattle.image.specs.Fields.{raw}
-use Rattle.image.proofs.Round.{written-reads}
+use Rattle.image.proofs.Round.{written-reads, read-spells}
 use Rattle.image_writer.specs.Answer.{Stored, placeAfter, Kept, Passed}
-use Rattle.image_writer.specs.Limits.{Each}
+use Rattle.image.specs.Limits.{Each}
 use Rattle.image_writer.specs.Past.{endOf, among, numberAt, pastNumber, pastPair, pastRaw, times, pastOptional, pastList, pastBytes, pastFields, pastInstruction, pastParts, pastWhole}
 use Rattle.image_writer.specs.declared.writer.Pass.{Pass}
-use Rattle.image_writer.proofs.Spells.{AreBytes, number-spells, parts}
+use Rattle.image.proofs.Parts.{parts, same-place}
+use Rattle.image.proofs.Standing.{AreBytes}
+use Rattle.image.proofs.Spells.{alone, number-spells}
 use Rattle.image_writer.proofs.Stores.{has-room, of-number, number-length}
 
 -- ---- the bytes of what was read, stored
 
--- the bytes x stand in s from one place to the next
-pub record Stand (s x : List ℕ) (from next : ℕ) : Type 0 where
+-- the bytes x lie in s from one place to the next
+pub record Lies (s x : List ℕ) (from next : ℕ) : Type 0 where
   pub bytes : drop from s ≡ x ++ drop next s
   pub ends : next ≡ from + length x
   pub inside : next ≤ length s
 
-module _ (s b x : List ℕ) (from next : ℕ) (h : Stand s x from next) (enough : length s ≤ length b) where
+module _ (s b x : List ℕ) (from next : ℕ) (h : Lies s x from next) (enough : length s ≤ length b) where
   pub stored-kept : (to to′ : ℕ) (out after : List ℕ) (w : Written) → Stored x to out w after → to′ ≡ placeAfter w to → Kept s b from to out → Kept s b next to′ after
   stored-kept to to′ out after w st p k =
       let front : length (take from s) ≡ from = length-take-le from s (k .inside) in
@@ -54,18 +56,15 @@ module _ (s b x : List ℕ) (from next : ℕ) (h : Stand s x from next) (enough 
             ∙ ap₂ (λ (l m : List ℕ). l ++ x ++ m) head tail ∙ ap (λ (l : List ℕ). l ++ drop next b) (sym more);
       }
 
-same-place : {A : Type 0} {a b : A} {m n : ℕ} → took a m ≡ took b n → m ≡ n
-same-place {A} {a} {b} {m} {n} e = cc
-
--- a number that was read stands there
-pub number-stands : (s : List ℕ) → AreBytes s → (at v next : ℕ) → number s at ≡ took v next → Stand s (bytesOf v) at next
-number-stands s bs at v next e =
-    let n = number-spells bs .spells at next v e in
-    let ends : next ≡ at + length (bytesOf v) = same-place (sym e ∙ written-reads v s at (drop next s) (n .1) (n .0)) in
+-- a number that was read lies there
+pub number-lies : (s : List ℕ) → AreBytes s → (at v next : ℕ) → number s at ≡ took v next → Lies s (bytesOf v) at next
+number-lies s bs at v next e =
+    let there = read-spells s at v next bs e in
+    let ends : next ≡ at + length (bytesOf v) = same-place (sym e ∙ written-reads v s at (drop next s) (alone (number-spells bs) at next v e .fits) there) in
     record {
-      bytes = n .0;
+      bytes = there;
       ends = ends;
-      inside = omega (arith, number-length v, ap length (n .0), length-append (bytesOf v) (drop next s), length-drop at s);
+      inside = omega (arith, number-length v, ap length there, length-append (bytesOf v) (drop next s), length-drop at s);
     }
 
 -- ---- numbers, read and written
@@ -78,7 +77,7 @@ module _ (s : List ℕ) (bs : AreBytes s) (c : Pass) (before : List ℕ) (g : Nu
       let took-it : number s (c .from) ≡ took v next = sym e ∙ ap got f in (
         record {
           place = ap (λ (g : Got ℕ). endOf g (c .from)) (sym took-it);
-          keeps = λ b enough k. stored-kept s b (bytesOf v) (c .from) next (number-stands s bs (c .from) v next took-it) enough (c .to) to before after w (of-number h) p k;
+          keeps = λ b enough k. stored-kept s b (bytesOf v) (c .from) next (number-lies s bs (c .from) v next took-it) enough (c .to) to before after w (of-number h) p k;
         },
         ap (orElse 0) (sym took-it),
       )
@@ -96,8 +95,8 @@ unfolding andThen
 pair-got s (took v n) = refl
 pair-got s (refused n q) = refl
 
-two-stand : (s x y : List ℕ) (at mid next : ℕ) → Stand s x at mid → Stand s y mid next → Stand s (x ++ y) at next
-two-stand s x y at mid next h k = record {
+two-lie : (s x y : List ℕ) (at mid next : ℕ) → Lies s x at mid → Lies s y mid next → Lies s (x ++ y) at next
+two-lie s x y at mid next h k = record {
   bytes = h .bytes ∙ ap (λ (l : List ℕ). x ++ l) (k .bytes) ∙ sym (append-assoc x y (drop next s));
   ends = omega (arith, h .ends, k .ends, length-append x y);
   inside = k .inside;
@@ -114,13 +113,13 @@ module _ (s : List ℕ) (bs : AreBytes s) (c : Pass) (before : List ℕ) (f g : 
       let whole : andThen (number s (c .from)) (λ first. number s) ≡ took v next = whole-pair ∙ ap got k in
       let i = parts (number s (c .from)) (λ first. number s) v next whole in
       let same : i .value ≡ u = ap (orElse 0) (sym (i .first)) ∙ ap (orElse 0) (sym e) ∙ sym is in
-      let first = number-stands s bs (c .from) (i .value) (i .place) (i .first) in
-      let second = number-stands s bs (i .place) v next (i .then′) in
-      let stand : Stand s (bytesOf u ++ bytesOf v) (c .from) next =
-      subst (λ (k : ℕ). Stand s (bytesOf k ++ bytesOf v) (c .from) next) same (two-stand s (bytesOf (i .value)) (bytesOf v) (c .from) (i .place) next first second) in
+      let first = number-lies s bs (c .from) (i .value) (i .place) (i .first) in
+      let second = number-lies s bs (i .place) v next (i .then′) in
+      let lies : Lies s (bytesOf u ++ bytesOf v) (c .from) next =
+      subst (λ (k : ℕ). Lies s (bytesOf k ++ bytesOf v) (c .from) next) same (two-lie s (bytesOf (i .value)) (bytesOf v) (c .from) (i .place) next first second) in
       record {
         place = ap (λ (g : Got ℕ). endOf g (c .from)) (sym whole);
-        keeps = λ b enough k. stored-kept s b (bytesOf u ++ bytesOf v) (c .from) next stand enough (c .to) to before after w h q k;
+        keeps = λ b enough k. stored-kept s b (bytesOf u ++ bytesOf v) (c .from) next lies enough (c .to) to before after w h q k;
       }
 
   pub pair-stays : (n q : ℕ) → g ≡ Bad n q → Passed s (pastPair s) c before (record { value = 0; from = c .from; to = c .to }) before
@@ -137,14 +136,14 @@ module _ (s : List ℕ) (c : Pass) (before : List ℕ) (count : ℕ) where
       let x = take m (drop (c .from) s) in
       let long : length (take m (drop (c .from) s)) ≡ count = length-take-le m (drop (c .from) s) (omega (arith, length-drop (c .from) s)) ∙ e in
       let place : c .from + m ≡ c .from + count = ap (λ (k : ℕ). c .from + k) e in
-      let stand : Stand s (take m (drop (c .from) s)) (c .from) (c .from + count) = record {
+      let lies : Lies s (take m (drop (c .from) s)) (c .from) (c .from + count) = record {
         bytes = sym (take-append-drop m (drop (c .from) s)) ∙ ap (λ (l : List ℕ). take m (drop (c .from) s) ++ l) (drop-drop m (c .from) s ∙ ap (λ (k : ℕ). drop k s) place);
         ends = omega arith;
         inside = room;
       } in
       record {
         place = rw (le-leb (c .from + count) (length s) room);
-        keeps = λ b enough k. stored-kept s b (take m (drop (c .from) s)) (c .from) (c .from + count) stand enough (c .to) to before after w h q k;
+        keeps = λ b enough k. stored-kept s b (take m (drop (c .from) s)) (c .from) (c .from + count) lies enough (c .to) to before after w h q k;
       }
 
   pub raw-stays : length s < c .from + count → Passed s (pastRaw s count) c before (record { value = 0; from = c .from; to = c .to }) before

@@ -1,8 +1,3 @@
-pub mod Takes
-pub mod Plain
-pub mod Loads
-pub mod Spells
-pub mod Writes
 pub mod Stores
 pub mod Keeps
 pub mod Reaches

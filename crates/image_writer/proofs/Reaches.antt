@@ -11,16 +11,17 @@ use borrow.Author.Tests.{leb-true}
 use Rattle.value.specs.Answer.{pick}
 use Rattle.value.specs.Refusal.{unknown, overLimit, beyondCount, leftOver}
 use Rattle.value.specs.Value.{Kind, value}
+use Rattle.value.specs.Tags.{kinds, holds, intCmps, floatCmps}
 use Rattle.image.specs.Parse.{Got, took, refused, Field, andThen, give, many, within, _>>=_, _<$>_, one, two, three, four, five}
 use Rattle.image.specs.Number.{number}
 use Rattle.image.specs.Answer.{orElse}
 use Rattle.image.specs.Fields.{such, atMost, known, meant, optional, listOf, raw, bytes, atEnd}
-use Rattle.image.specs.Image.{Counts, fits, kinds, types, intCmps, floatCmps, versions, flags, items, flagsOf, mostParameters, header, literalOf, u32, size, type, var, label, constant, callee, operand, slot, branch, declared, table, instruction, function}
+use Rattle.image.specs.Image.{Counts, types, versions, flags, items, flagsOf, mostParameters, header, literalOf, u32, size, type, var, label, constant, callee, operand, slot, branch, declared, table, instruction, function}
 use Rattle.image.specs.Program.{Operand, literal, Instruction, Jump, Switch, Assign, ConstantAddress, Call, Return, IntCmp′, FloatCmp′, Add, Sub, Mul, Div, Mod, FDiv, Not, Negate, Offset, Initialize, Write, Read, Copy, Drop}
 use Rattle.image_writer.specs.Past.{endOf, times, among, numberAt, pastNumber, pastPair, pastRaw, pastOptional, pastList, pastBytes, pastSwitch, pastCall, pastChosen, pastThree, pastTyped, pastTwo, pastInitialize, pastWrite, pastCopy, pastFields, pastInstruction, pastFunction, pastParts, pastWhole}
-use Rattle.image_writer.proofs.Spells.{parts, picked, Every, every-at, meant-some, two-right, three-right, four-right, five-right}
+use Rattle.image.proofs.Parts.{parts, picked, Every, every-at, meant-some, two-right, three-right, four-right, five-right}
 use Rattle.image_writer.proofs.Keeps.{same-parts}
-use Rattle.image_writer.proofs.Plain.{plain, plainParts}
+use Rattle.image.proofs.Plain.{plain, plainParts}
 
 -- whatever p takes, it ends where `past` says
 pub record Reaches {A : Type 0} (p : Field A) (past : ℕ → ℕ) : Type 0 where
@@ -214,7 +215,7 @@ module _ (s : List ℕ) where
 
     literal-numeric : (k : Kind) → Numeric s (literalOf s k)
     unfolding literalOf
-    literal-numeric k = one-numeric (λ b. literal (value k b)) (such-numeric (fits k) unknown)
+    literal-numeric k = one-numeric (λ b. literal (value k b)) (such-numeric (holds k) unknown)
 
     literals-numeric : (ks : List Kind) → Every (λ k p. Numeric s p) (map (λ k. some (literalOf s k)) ks)
     unfolding Every

@@ -15,16 +15,18 @@ use Rattle.image.specs.declared.field.Step.{Step}
 use Rattle.image.specs.declared.field.Step.the-variants.{At, Stop}
 use Rattle.loader.specs.declared.load.Loaded.{Loaded}
 use Rattle.loader.specs.Tables.{loadedOf, loadedFrom}
-use Rattle.image_writer.specs.Written.{written}
+use Rattle.image.specs.Written.{written}
 use Rattle.image_writer.specs.Past.{pastWhole}
 use Rattle.image_writer.specs.Answer.{Stored, Kept, Passed, Rewrote, outcome, buffer}
 use Rattle.image_writer.specs.declared.writer.Pass.{Pass}
 use Rattle.image_writer.specs.declared.writer.Outcome.{Outcome}
 use Rattle.image_writer.specs.declared.writer.Outcome.the-variants.{Done, Refused, Short}
 use Rattle.image.specs.declared.number.Written.{Written}
-use Rattle.image_writer.proofs.Spells.{AreBytes, picked}
-use Rattle.image_writer.proofs.Plain.{plain, loaded-plain}
-use Rattle.image_writer.proofs.Writes.{loaded-writes, loaded-end}
+use Rattle.image.proofs.Parts.{picked}
+use Rattle.image.proofs.Standing.{AreBytes}
+use Rattle.image.proofs.Plain.{plain, loaded-plain}
+use Rattle.image.proofs.Writes.{loaded-writes}
+use Rattle.image.proofs.Loads.{loaded-end}
 use Rattle.image_writer.proofs.Reaches.{plain-reaches}
 
 -- ---- what the loader's last place says of the definition's answer

@@ -12,7 +12,7 @@ use Rattle.value.specs.Refusal.{shortBuffer}
 use Rattle.image.specs.Parse.{Got, took, refused}
 use Rattle.image.specs.Program.{Program}
 use Rattle.image.specs.Image.{loaded}
-use Rattle.image_writer.specs.Written.{written}
+use Rattle.image.specs.Written.{written}
 use Rattle.image_writer.specs.declared.writer.Pass.{Pass}
 use Rattle.image_writer.specs.declared.writer.Outcome.{Outcome}
 use Rattle.image_writer.specs.declared.writer.Outcome.the-variants.{Done, Refused, Short}

@@ -1,5 +1,2 @@
-pub mod Written
-pub mod Limits
-pub mod Cases
 pub mod Past
 pub mod Answer

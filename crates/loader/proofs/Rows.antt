@@ -11,10 +11,11 @@ use lib.ListN.{length, getD, List·getD-eq-default}
 use lib.Dec.{leb, leb·suc-suc}
 use Rattle.value.specs.Refusal.{unknown}
 use Rattle.value.specs.Value.{Kind, IntCmp, FloatCmp, isScalar}
+use Rattle.value.specs.Tags.{kinds, holds}
 use Rattle.image.specs.Parse.{Field, one, three, four}
 use Rattle.image.specs.Number.{number}
 use Rattle.image.specs.Fields.{such, below, upTo, known, optional, listOf, bytes}
-use Rattle.image.specs.Image.{Counts, fits, kinds, literalOf, u32, size, type, var, label, constant, callee, operand, branch, declared, table, instruction}
+use Rattle.image.specs.Image.{Counts, literalOf, u32, size, type, var, label, constant, callee, operand, branch, declared, table, instruction}
 use Rattle.image.specs.Program.{Operand, Instruction, IntCmp′, FloatCmp′, Add, Sub, Mul, Div, Mod, FDiv}
 use Rattle.image.specs.Answer.{after, orElse, walk, placeOf}
 use Rattle.image.specs.declared.field.Step.{Step}
@@ -58,9 +59,9 @@ beyond-13 v lo a = omega arith
 pub beyond-21 : (v : ℕ) → 15 < v → ((v ≡ 2) ⊎ (v ≡ 19) → ⊥) → (v ≡ 16 → ⊥) → (v ≡ 17 → ⊥) → (v ≡ 18 → ⊥) → (v ≡ 20 → ⊥) → (v ≡ 21 → ⊥) → 22 ≤ v
 beyond-21 v lo f a b d g h = let k : v ≡ 19 → ⊥ = λ e. f (inr e) in omega arith
 
-literal-walk : (s : List ℕ) (k : Kind) (c : Step) → walk (literalOf s k) c ≡ walk (such s (fits k) unknown) c
+literal-walk : (s : List ℕ) (k : Kind) (c : Step) → walk (literalOf s k) c ≡ walk (such s (holds k) unknown) c
 unfolding literalOf
-literal-walk s k c = walk-map _ (such s (fits k) unknown) c
+literal-walk s k c = walk-map _ (such s (holds k) unknown) c
 
 -- an operand whose tag is v
 module _ (s : List ℕ) (n : Counts) (c : Step) (v : ℕ) (e : v ≡ orElse 0 (after c (number s))) where
@@ -75,38 +76,38 @@ module _ (s : List ℕ) (n : Counts) (c : Step) (v : ℕ) (e : v ≡ orElse 0 (a
   variable-form h = form (one Operand.variable (var s n)) (ap (λ (k : ℕ). getD forms k none) h) ∙ walk-map _ (var s n) (walk (number s) c)
 
   -- the bits of a kind that pass a test
-  literal-form : (k : Kind) (test : ℕ → Bool) → getD forms v none ≡ some (literalOf s k) → ((b : ℕ) → fits k b ≡ test b)
+  literal-form : (k : Kind) (test : ℕ → Bool) → getD forms v none ≡ some (literalOf s k) → ((b : ℕ) → holds k b ≡ test b)
       → walk (operand s n) c ≡ walk (such s test unknown) (walk (number s) c)
   literal-form k test h same =
-      form (literalOf s k) h ∙ literal-walk s k (walk (number s) c) ∙ such-same s (fits k) test unknown same (walk (number s) c)
+      form (literalOf s k) h ∙ literal-walk s k (walk (number s) c) ∙ such-same s (holds k) test unknown same (walk (number s) c)
 
   pub bool-form : v ≡ 1 → walk (operand s n) c ≡ walk (upTo s 1 unknown) (walk (number s) c)
-  unfolding fits
-  bool-form h = literal-form Kind.bool (λ b. leb b 1) (ap (λ (k : ℕ). getD forms k none) h) (λ b. refl)
+  unfolding holds
+  bool-form h = literal-form Kind.bool (λ b. leb b 1) (ap (λ (k : ℕ). getD forms k none) h) (λ b. leb·suc-suc b 1)
 
   pub scalar-form : v ≡ 12 → walk (operand s n) c ≡ walk (such s isScalar unknown) (walk (number s) c)
-  unfolding fits
+  unfolding holds
   scalar-form h = literal-form Kind.char isScalar (ap (λ (k : ℕ). getD forms k none) h) (λ b. refl)
 
   pub byte-form : (v ≡ 2) ⊎ (v ≡ 6) → walk (operand s n) c ≡ walk (upTo s 0xff unknown) (walk (number s) c)
-  unfolding fits
+  unfolding holds
   byte-form (inl h) = literal-form Kind.u8 (λ b. leb b 0xff) (ap (λ (k : ℕ). getD forms k none) h) (λ b. leb·suc-suc b 0xff)
   byte-form (inr h) = literal-form Kind.i8 (λ b. leb b 0xff) (ap (λ (k : ℕ). getD forms k none) h) (λ b. leb·suc-suc b 0xff)
 
   pub half-form : (v ≡ 3) ⊎ (v ≡ 7) → walk (operand s n) c ≡ walk (upTo s 0xffff unknown) (walk (number s) c)
-  unfolding fits
+  unfolding holds
   half-form (inl h) = literal-form Kind.u16 (λ b. leb b 0xffff) (ap (λ (k : ℕ). getD forms k none) h) (λ b. leb·suc-suc b 0xffff)
   half-form (inr h) = literal-form Kind.i16 (λ b. leb b 0xffff) (ap (λ (k : ℕ). getD forms k none) h) (λ b. leb·suc-suc b 0xffff)
 
   pub word-form : (v ≡ 4) ⊎ (v ≡ 8) ⊎ (v ≡ 10) ⊎ (v ≡ 13) → walk (operand s n) c ≡ walk (upTo s 0xffffffff unknown) (walk (number s) c)
-  unfolding fits
+  unfolding holds
   word-form (inl h) = literal-form Kind.u32 (λ b. leb b 0xffffffff) (ap (λ (k : ℕ). getD forms k none) h) (λ b. leb·suc-suc b 0xffffffff)
   word-form (inr (inl h)) = literal-form Kind.i32 (λ b. leb b 0xffffffff) (ap (λ (k : ℕ). getD forms k none) h) (λ b. leb·suc-suc b 0xffffffff)
   word-form (inr (inr (inl h))) = literal-form Kind.f32 (λ b. leb b 0xffffffff) (ap (λ (k : ℕ). getD forms k none) h) (λ b. leb·suc-suc b 0xffffffff)
   word-form (inr (inr (inr h))) = literal-form Kind.asn (λ b. leb b 0xffffffff) (ap (λ (k : ℕ). getD forms k none) h) (λ b. leb·suc-suc b 0xffffffff)
 
   pub double-form : (v ≡ 5) ⊎ (v ≡ 9) ⊎ (v ≡ 11) ⊎ (v ≡ 14) → walk (operand s n) c ≡ walk (upTo s 0xffffffffffffffff unknown) (walk (number s) c)
-  unfolding fits
+  unfolding holds
   double-form (inl h) = literal-form Kind.u64 (λ b. leb b 0xffffffffffffffff) (ap (λ (k : ℕ). getD forms k none) h) (λ b. leb·suc-suc b 0xffffffffffffffff)
   double-form (inr (inl h)) = literal-form Kind.i64 (λ b. leb b 0xffffffffffffffff) (ap (λ (k : ℕ). getD forms k none) h) (λ b. leb·suc-suc b 0xffffffffffffffff)
   double-form (inr (inr (inl h))) = literal-form Kind.f64 (λ b. leb b 0xffffffffffffffff) (ap (λ (k : ℕ). getD forms k none) h) (λ b. leb·suc-suc b 0xffffffffffffffff)

@@ -14,13 +14,12 @@ use Rattle.image.specs.Answer.{shape, after, orElse, walk, placeOf}
 use Rattle.image.specs.declared.field.Step.{Step}
 use Rattle.image.specs.declared.field.Step.the-variants.{At, Stop}
 use Rattle.image.proofs.Laws.{walk-placed}
+use Rattle.image.proofs.Parts.{parts}
+pub use Rattle.image.proofs.Parts.{never}
 use Rattle.image.proofs.Shapes.{within-none, within-first}
 use Rattle.loader.specs.Tables.{ats, Fills}
 
 -- ---- what was taken, taken apart
-
-pub never : {A B : Type 0} {n q e : ℕ} {a : A} → refused n q ≡ took a e → B
-never {A} {B} {n} {q} {e} {a} h = let z : _≡_ {A = ℕ} 0 1 = cc in absurd (omega arith)
 
 -- what was taken after a step was taken at its place
 pub after-took : {A : Type 0} (c : Step) (p : Field A) {a : A} {e : ℕ} → after c p ≡ took a e → (n : ℕ) × (c ≡ At n) × (p n ≡ took a e)
@@ -30,9 +29,7 @@ after-took (Stop k q) p h = never h
 -- what was taken after a field was taken from where the field ended
 pub then-took : {A B : Type 0} (g : Got A) (f : A → ℕ → Got B) {b : B} {e : ℕ} → andThen g f ≡ took b e
     → (a : A) × (n : ℕ) × (g ≡ took a n) × (f a n ≡ took b e)
-unfolding andThen
-then-took (took a n) f h = (a, n, refl, h)
-then-took (refused k q) f h = never h
+then-took g f {b} {e} h = let i = parts g f b e h in (i .value, i .place, i .first, i .then′)
 
 -- the first of many fields with a limit over all, and the rest of them
 module _ {A : Type 0} (size : A → ℕ) (p : ℕ → Field A) where

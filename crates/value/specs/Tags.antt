@@ -14,6 +14,7 @@ unfoldable pub named : List Kind → ℕ → Option Kind
 named [] n = none
 named (k ∷ ks) n = pick (eqb n (tag k)) (some k) (named ks n)
 
+-- "1 Bool, 2 U8, 3 U16, 4 U32, 5 U64, 6 I8, 7 I16, 8 I32, 9 I64, 10 F32, 11 F64, 12 Char, 13 Asn, 14 Pointer"
 abbrev pub kinds : List Kind
 kinds = bool ∷ u8 ∷ u16 ∷ u32 ∷ u64 ∷ i8 ∷ i16 ∷ i32 ∷ i64 ∷ f32 ∷ f64 ∷ char ∷ asn ∷ pointer ∷ []
 

@@ -2,7 +2,7 @@
 use mathlib.Core.Path.{refl}
 use mathlib.Core.List.{[], _∷_}
 use borrow.Author.Needs.{needs}
-use Rattle.image_writer.specs.Limits.{Each}
+use Rattle.image.specs.Limits.{Each}
 use Rattle.image_writer.specs.Past.{among, pastFields, pastNumber, pastPair, pastOptional, pastSwitch, pastCall, pastChosen, pastThree, pastTyped, pastTwo, pastInitialize, pastWrite, pastCopy}
 use Rattle.image_writer.proofs.Keeps.{none-among, keyed, row-passed}
 use Rattle.image_writer.proofs.writer.pass_fields.Statement.{statement}

@@ -1,3 +1,0 @@
-pub mod Decoded
-pub mod Laws
-pub mod Computed

@@ -1,4 +1,0 @@
-pub mod Variables
-pub mod Decode
-pub mod Compute
-pub mod Code
