@@ -13,7 +13,7 @@ use Rattle.value.specs.Answer.{Answer, ok, refused, need}
 use Rattle.value.specs.Refusal.{notGivenOut, throughConstant, frameGone, noAllocation, beyondLength, misaligned}
 use Rattle.memory.specs.Memory.{Frame, constant, local, noFrame, stands, divides, access, written, writeAt, writeBytes, readConstant, readAt, readBytes}
 use Rattle.memory.specs.Memory as M
-use Rattle.memory.specs.Tables.{Tables, both, ready, live, bound, pointerAt, alignedOf, withinOf, rankedOf, standingOf, fromStore, accessedAt, localOf, readAccessOf, forWrite, writeAccessOf, putAt, writtenOf, constantOf, getAt, readOf}
+use Rattle.memory.specs.Tables.{Tables, both, ready, live, bound, pointerAt, alignedOf, withinOf, rankedOf, standingOf, fromStore, accessedAt, localOf, readAccessOf, forWrite, writeAccessOf, putAt, writtenOf, constantAccessOf, constantOf, getAt, readOf}
 use Rattle.memory.specs.View.{tab, part, bytesOf, allocationsIn, frameIn, view, constantsIn, afterWrite, afterRead}
 use Rattle.memory.specs.declared.PointerRecord.{PointerRecord}
 use Rattle.memory.specs.declared.Place.{Place}
@@ -261,7 +261,7 @@ read-refused n l = refl
 -- 40, 29
 pub constant-view : (raw extents : List ℕ) → Extents raw extents → (k : ℕ) (bytes : List ℕ)
     → afterRead (constantOf k bytes raw extents) ≡ readConstant (constantsIn raw extents) k (length bytes)
-unfolding constantOf readConstant constantsIn need afterRead
+unfolding constantOf constantAccessOf readConstant constantsIn need afterRead
 constant-view raw extents good k bytes =
     let n = length bytes in
     let f : ℕ → List ℕ = λ j. part raw (getD extents (j * 2) 0) (getD extents (j * 2 + 1) 0) in

@@ -1,15 +1,15 @@
 -- What the tests of the tables' definitions show, read off a chosen answer one test after another.
-use mathlib.Core.Path.{_≡_, refl, sym}
+use mathlib.Core.Path.{_≡_, refl, sym, ap}
 use mathlib.Core.List.{List}
 use mathlib.Core.Bool.{Bool, true, false, _&&_}
-use Prim.Native.Nat.{ℕ, _+_, _-_, _*_, _<_, _≤_}
+use Prim.Native.Nat.{ℕ, _+_, _-_, _*_, _/_, _<_, _≤_}
 use native.Mathlib.Omega.{arith}
 use lib.ListN.{getD, length}
 use lib.Dec.{ltb, leb, eqb}
-use borrow.Author.Tests.{eqb-true, ltb-false, leb-true, leb-false, eq-eqb, ne-eqb, le-ltb, le-leb, lt-leb}
+use borrow.Author.Tests.{eqb-true, eqb-false, ltb-false, leb-true, leb-false, eq-eqb, ne-eqb, le-ltb, le-leb, lt-leb}
 use Rattle.value.specs.Answer.{pick}
-use Rattle.value.specs.Refusal.{notSound, notGivenOut, throughConstant, frameGone, noAllocation, beyondLength, misaligned, bytesFull, pointersFull}
-use Rattle.memory.specs.Tables.{Tables, ready, readyOf, roomOf, live, topFirst, bound, freshOf, cleared, all, tables, registers, out, made, allocatedOf, withinOf, alignedOf, rankedOf, standingOf, localOf, accessedAt, fromStore, readAccessOf, writeAccessOf, forWrite, pointerAt, frameWord}
+use Rattle.value.specs.Refusal.{notSound, notGivenOut, throughConstant, frameGone, noAllocation, beyondLength, misaligned, allocationsFull, bytesFull, pointersFull, noConstant}
+use Rattle.memory.specs.Tables.{Tables, ready, readyOf, roomOf, live, topFirst, bound, freshOf, cleared, all, tables, registers, Out, out, made, unmade, allocatedOf, withinOf, alignedOf, rankedOf, standingOf, localOf, accessedAt, fromStore, readAccessOf, writeAccessOf, forWrite, constantAccessOf, pointerAt, frameWord}
 use Rattle.memory.specs.declared.PointerRecord.{PointerRecord}
 use Rattle.memory.specs.declared.Moved.{Moved}
 use Rattle.memory.specs.declared.Given.{Given}
@@ -93,6 +93,40 @@ pub allocated-made : (t : Tables) (size : ℕ) → ready t ≡ true → (t .regi
     → roomOf (bound t (live t)) size (t .registers .pointers) ≡ 0 → allocatedOf t size ≡ made t size
 unfolding allocatedOf
 allocated-made t size a b d e f = simp (a, ne-eqb _ _ b, le-ltb _ _ d, lt-leb _ _ e, f)
+
+unmade-made : (t : Tables) (n size : ℕ) → unmade t n ≡ made t size → ⊥
+unmade-made t n size e =
+    let same = ap (λ (o : Out). o .answer) e in
+    let z : _≡_ {A = ℕ} 0 1 = cc in
+    omega arith
+
+-- what a grant shows
+pub record Granted (t : Tables) (size : ℕ) : Type 0 where
+  pub tables : Ready (t .registers .depth) (t .registers .pointers) (length (t .store)) (length (t .frames)) (length (t .bounds)) (length (t .pointers))
+  pub framed : t .registers .depth ≡ 0 → ⊥
+  pub ordered : topFirst t ≤ live t
+  pub few : live t < 512
+  pub stored : bound t (live t) + size ≤ 32768
+  pub given : t .registers .pointers < 4096
+
+pub granted : (t : Tables) (size : ℕ) → allocatedOf t size ≡ made t size → Granted t size
+unfolding allocatedOf
+granted t size e =
+    let n = roomOf (bound t (live t)) size (t .registers .pointers) in
+    let a = keep (ready t) _ (unmade t notSound) _ e (unmade-made t notSound size) in
+    let b = skip (eqb (t .registers .depth) 0) (unmade t notSound) _ _ (a .1) (unmade-made t notSound size) in
+    let c = skip (ltb (live t) (topFirst t)) (unmade t notSound) _ _ (b .1) (unmade-made t notSound size) in
+    let d = skip (leb 512 (live t)) (unmade t allocationsFull) _ _ (c .1) (unmade-made t allocationsFull size) in
+    let f = keep (eqb n 0) (made t size) (unmade t n) _ (d .1) (unmade-made t n size) in
+    let g = room-none (bound t (live t)) size (t .registers .pointers) (eqb-true n 0 (f .0)) in
+    record {
+      tables = ready-of _ _ _ _ _ _ (a .0);
+      framed = eqb-false _ _ (b .0);
+      ordered = ltb-false _ _ (c .0);
+      few = leb-false _ _ (d .0);
+      stored = g .0;
+      given = g .1;
+    }
 
 pub out-same : {a : Given} {b b′ c d e e′ : List ℕ} → b ≡ b′ → e ≡ e′ → out a b c d e ≡ out a b′ c d e′
 out-same p q = cc
@@ -225,3 +259,17 @@ write-read t p n x e = for-write _ x e
 
 pub write-fits : (t : Tables) (p n x : ℕ) → writeAccessOf t p n ≡ place.At x → x + n ≤ length (t .store)
 write-fits t p n x e = read-fits t p n x (write-read t p n x e)
+
+-- a constant's first bytes stand in the image
+pub constant-fits : (k n : ℕ) (raw extents : List ℕ) (x : ℕ) → constantAccessOf k n raw extents ≡ place.At x → x + n ≤ length raw
+unfolding constantAccessOf
+constant-fits k n raw extents x e =
+    let a = skip (leb (length extents / 2) k) (place.Refused noConstant) _ _ e (never noConstant x) in
+    let b = skip (ltb (length raw) (getD extents (k * 2) 0)) (place.Refused noConstant) _ _ (a .1) (never noConstant x) in
+    let c = skip (ltb (length raw - getD extents (k * 2) 0) (getD extents (k * 2 + 1) 0)) (place.Refused noConstant) _ _ (b .1) (never noConstant x) in
+    let d = skip (ltb (getD extents (k * 2 + 1) 0) n) (place.Refused beyondLength) _ _ (c .1) (never beyondLength x) in
+    let i : getD extents (k * 2) 0 ≤ length raw = ltb-false _ _ (b .0) in
+    let j : getD extents (k * 2 + 1) 0 ≤ length raw - getD extents (k * 2) 0 = ltb-false _ _ (c .0) in
+    let l : n ≤ getD extents (k * 2 + 1) 0 = ltb-false _ _ (d .0) in
+    let m = at-same (getD extents (k * 2) 0) x (d .1) in
+    omega arith

@@ -246,14 +246,20 @@ putAt (place.Refused n) store bytes = both (outcome.Refused n) store
 unfoldable pub writtenOf : Tables → ℕ → (bytes : List ℕ) → Both Outcome
 writtenOf t p bytes = putAt (writeAccessOf t p (length bytes)) (t .store) bytes
 
--- a constant's record of `extents` has its start and its length in `raw`
+-- a constant's record of `extents` has its start and its length in `raw`: where its first bytes stand
+unfoldable pub constantAccessOf : (k size : ℕ) → (raw extents : List ℕ) → Place
+constantAccessOf k n raw extents =
+    pick (leb (length extents / 2) k) (place.Refused noConstant)
+    (pick (ltb (length raw) (getD extents (k * 2) 0)) (place.Refused noConstant)
+    (pick (ltb (length raw - getD extents (k * 2) 0) (getD extents (k * 2 + 1) 0)) (place.Refused noConstant)
+    (pick (ltb (getD extents (k * 2 + 1) 0) n) (place.Refused beyondLength) (place.At (getD extents (k * 2) 0)))))
+
+abbrev pub takenAt : Place → (bytes raw : List ℕ) → Both Outcome
+takenAt (place.At at) bytes raw = both outcome.Done (take (length bytes) (drop at raw))
+takenAt (place.Refused n) bytes raw = both (outcome.Refused n) bytes
+
 unfoldable pub constantOf : ℕ → (bytes raw extents : List ℕ) → Both Outcome
-constantOf k bytes raw extents =
-    pick (leb (length extents / 2) k) (both (outcome.Refused noConstant) bytes)
-    (pick (ltb (length raw) (getD extents (k * 2) 0)) (both (outcome.Refused noConstant) bytes)
-    (pick (ltb (length raw - getD extents (k * 2) 0) (getD extents (k * 2 + 1) 0)) (both (outcome.Refused noConstant) bytes)
-    (pick (ltb (getD extents (k * 2 + 1) 0) (length bytes)) (both (outcome.Refused beyondLength) bytes)
-    (both outcome.Done (take (length bytes) (drop (getD extents (k * 2) 0) raw))))))
+constantOf k bytes raw extents = takenAt (constantAccessOf k (length bytes) raw extents) bytes raw
 
 abbrev pub getAt : Source → (store bytes raw extents : List ℕ) → Both Outcome
 getAt (source.Local at) store bytes raw extents = both outcome.Done (take (length bytes) (drop at store))
@@ -262,6 +268,18 @@ getAt (source.Refused n) store bytes raw extents = both (outcome.Refused n) byte
 
 unfoldable pub readOf : Tables → ℕ → (bytes raw extents : List ℕ) → Both Outcome
 readOf t p bytes raw extents = getAt (readAccessOf t p (length bytes)) (t .store) bytes raw extents
+
+-- what was read is written
+abbrev pub writtenNext : Tables → (to : ℕ) → Outcome → (bytes : List ℕ) → Both Outcome
+writtenNext t to outcome.Done bytes = writtenOf t to bytes
+writtenNext t to (outcome.Refused n) bytes = both (outcome.Refused n) (t .store)
+
+abbrev pub writtenAfter : Tables → (to : ℕ) → Both Outcome → Both Outcome
+writtenAfter t to r = writtenNext t to (r .answer) (r .table)
+
+-- "Copy checks its read in full, then its write; bytes as before the copy."
+unfoldable pub copiedOf : Tables → (to from size : ℕ) → (raw extents : List ℕ) → Both Outcome
+copiedOf t to from n raw extents = writtenAfter t to (readOf t from (replicate n 0) raw extents)
 
 -- ---- pointers
 

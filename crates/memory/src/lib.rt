@@ -14,8 +14,11 @@ ghost use mathlib.Core.Bool.{true, false};
 ghost use Prim.Native.Nat.{_+_, _*_, _<_, _≤_};
 ghost use lib.ListN.{getD, set, length, take, drop, replicate};
 ghost use lib.Seq.{paste};
-ghost use Rattle.memory.specs.Tables.{tables, readyOf, both, all, out, pointerAt, pointerSet, freshOf, pushedOf, poppedOf, zeroed, roomOf, allocatedOf, alignedOf, withinOf, rankedOf, standingOf, localOf, readAccessOf, writeAccessOf, writtenOf, constantOf, readOf, offsetOf, addressOf, recordOf, columns, filledOf, roomyOf, listing, listedOf, state, every, idAbove, frameOk, boundOk, pointerOk, pointersOk, storedOk, variableOk, registersOk, endsOk, allocationsOk, memoryOk, soundOf};
+ghost use Rattle.memory.specs.Tables.{tables, readyOf, both, all, out, pointerAt, pointerSet, freshOf, pushedOf, poppedOf, zeroed, roomOf, made, allocatedOf, alignedOf, withinOf, rankedOf, standingOf, localOf, readAccessOf, writeAccessOf, writtenOf, constantAccessOf, constantOf, readOf, offsetOf, addressOf, recordOf, columns, filledOf, roomyOf, listing, listedOf, state, every, idAbove, frameOk, boundOk, pointerOk, pointersOk, storedOk, variableOk, registersOk, endsOk, allocationsOk, memoryOk, soundOf};
 ghost use Rattle.value.specs.Value.{isScalar};
+
+pub mod copying;
+
 use value::refusal::ALLOCATIONS_FULL;
 use value::refusal::BEYOND_LENGTH;
 use value::refusal::BYTES_FULL;
@@ -157,7 +160,8 @@ fn zero(s: &mut [u8], from: usize, len: usize)
     }
 }
 
-fn clear_words(s: &mut [u64])
+// Every word becomes 0.
+pub fn clear_words(s: &mut [u64])
     ensures { λ r. ⌜ now (s .exit) ≡ replicate (length (now (s .entry))) 0 ⌝ }
 {
     let mut i = 0;
@@ -287,6 +291,44 @@ pub fn room(used: u64, size: u64, given: usize) -> u64
     0
 }
 
+// The allocation that nothing refuses: `size` bytes more in the top frame, all 0, and a pointer to them.
+fn grant(
+    m: Registers,
+    size: usize,
+    store: &mut [u8],
+    frames: &mut [u64],
+    bounds: &mut [u64],
+    pointers: &mut [u64],
+) -> Given
+    requires { ⌜ allocatedOf (tables m (now store) (now frames) (now bounds) (now pointers)) size ≡ made (tables m (now store) (now frames) (now bounds) (now pointers)) size ⌝ }
+    ensures { λ r. ⌜ out r (now (store .exit)) (now (frames .exit)) (now (bounds .exit)) (now (pointers .exit)) ≡ allocatedOf (tables m (now (store .entry)) (now (frames .entry)) (now (bounds .entry)) (now (pointers .entry))) size ⌝ }
+{
+    let p = m.pointers;
+    let e = m.depth * 4;
+    let live = frames[e + 3];
+    let first = frames[e - 1];
+    let id = frames[e - 4];
+    let k = live as usize;
+    let used = bounds[k];
+    frames[e + 3] = live + 1;
+    bounds[k + 1] = used + size as u64;
+    zero(store, used as usize, size);
+    put_pointer(
+        pointers,
+        p,
+        PointerRecord {
+            kind: LOCAL,
+            index: (m.depth - 1) as u64,
+            id: id,
+            allocation: live - first,
+            offset: 0,
+        },
+    );
+    let mut n = m;
+    n.pointers = p + 1;
+    Given::Made(p, n)
+}
+
 // `size` bytes more in the top frame, all 0, and a pointer to them.
 pub fn allocate(
     m: Registers,
@@ -298,47 +340,26 @@ pub fn allocate(
 ) -> Given
     ensures { λ r. ⌜ out r (now (store .exit)) (now (frames .exit)) (now (bounds .exit)) (now (pointers .exit)) ≡ allocatedOf (tables m (now (store .entry)) (now (frames .entry)) (now (bounds .entry)) (now (pointers .entry))) size ⌝ }
 {
-    let d = m.depth;
-    let p = m.pointers;
     if !ready(m, store.len(), frames.len(), bounds.len(), pointers.len()) {
         return Given::Refused(NOT_SOUND);
     }
-    if d == 0 {
+    if m.depth == 0 {
         return Given::Refused(NOT_SOUND);
     }
-    let e = d * 4;
+    let e = m.depth * 4;
     let live = frames[e + 3];
-    let first = frames[e - 1];
-    let id = frames[e - 4];
-    if live < first {
+    if live < frames[e - 1] {
         return Given::Refused(NOT_SOUND);
     }
     if MAX_ALLOCATIONS <= live {
         return Given::Refused(ALLOCATIONS_FULL);
     }
     let k = live as usize;
-    let used = bounds[k];
-    let no = room(used, size as u64, p);
+    let no = room(bounds[k], size as u64, m.pointers);
     if no != 0 {
         return Given::Refused(no);
     }
-    frames[e + 3] = live + 1;
-    bounds[k + 1] = used + size as u64;
-    zero(store, used as usize, size);
-    put_pointer(
-        pointers,
-        p,
-        PointerRecord {
-            kind: LOCAL,
-            index: (d - 1) as u64,
-            id: id,
-            allocation: live - first,
-            offset: 0,
-        },
-    );
-    let mut n = m;
-    n.pointers = p + 1;
-    Given::Made(p, n)
+    grant(m, size, store, frames, bounds, pointers)
 }
 
 // Size 0 divides only 0.
@@ -510,28 +531,39 @@ pub fn write_bytes(
     }
 }
 
-// The first bytes of constant k, whose start and length in `raw` are its record of `extents`: 40, 29.
-pub fn read_constant(k: u64, bytes: &mut [u8], raw: &[u8], extents: &[u64]) -> Outcome
-    ensures { λ r. ⌜ both r (now (bytes .exit)) ≡ constantOf k (now (bytes .entry)) (now (raw .entry)) (now (extents .entry)) ⌝ }
+// Where the first `size` bytes of constant k stand in `raw`, whose start and length there are its record of `extents`: 40, 29.
+pub fn constant_access(k: u64, size: u64, raw: &[u8], extents: &[u64]) -> Place
+    ensures { λ r. ⌜ r ≡ constantAccessOf k size (now (raw .entry)) (now (extents .entry)) ⌝ }
 {
-    let size = bytes.len() as u64;
     if (extents.len() / 2) as u64 <= k {
-        return Outcome::Refused(NO_CONSTANT);
+        return Place::Refused(NO_CONSTANT);
     }
     let at = k as usize * 2;
     let start = extents[at];
     let length = extents[at + 1];
     if (raw.len() as u64) < start {
-        return Outcome::Refused(NO_CONSTANT);
+        return Place::Refused(NO_CONSTANT);
     }
     if (raw.len() as u64) - start < length {
-        return Outcome::Refused(NO_CONSTANT);
+        return Place::Refused(NO_CONSTANT);
     }
     if length < size {
-        return Outcome::Refused(BEYOND_LENGTH);
+        return Place::Refused(BEYOND_LENGTH);
     }
-    copy_out(raw, start as usize, bytes);
-    Outcome::Done
+    Place::At(start as usize)
+}
+
+// The first bytes of constant k.
+pub fn read_constant(k: u64, bytes: &mut [u8], raw: &[u8], extents: &[u64]) -> Outcome
+    ensures { λ r. ⌜ both r (now (bytes .exit)) ≡ constantOf k (now (bytes .entry)) (now (raw .entry)) (now (extents .entry)) ⌝ }
+{
+    match constant_access(k, bytes.len() as u64, raw, extents) {
+        Place::At(start) => {
+            copy_out(raw, start, bytes);
+            Outcome::Done
+        }
+        Place::Refused(n) => Outcome::Refused(n),
+    }
 }
 
 // The bytes are filled by what pointer p leads to.

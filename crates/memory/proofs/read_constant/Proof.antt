@@ -1,96 +1,51 @@
--- `memory::read_constant` meets its contract: by the tests on the way to each answer.
+-- `memory::read_constant` meets its contract: by cases of what `constant_access` ensures; a granted place has its bytes in the image.
+use borrow.Author.Needs.{needs}
+use mathlib.Core.Path.{_∙_, sym}
+use Rattle.memory.specs.Tables.{constantOf}
+use Rattle.memory.proofs.Laws.{constant-fits}
 use Rattle.memory.proofs.read_constant.Statement.{statement}
 use Rattle.memory.proofs.read_constant.Tie as tie
-use Rattle.memory.specs.Tables.{constantOf}
-use borrow.Author.Needs.{needs}
-use borrow.Author.Tests.{le-ltb, lt-ltb, le-leb, lt-leb}
+
+constant-access-requires : tie.Need-constant-access-requires
+constant-access-requires c κs = search needs
+
+enum-known-start : tie.Need-enum-known-start
+enum-known-start c = search needs
+
+copy-out-requires : tie.Need-copy-out-requires
+copy-out-requires c κs = constant-fits _ _ _ _ _ (sym (c .before .before .before .before .constant-access .ensures) ∙ c .before .before .start .given .1)
+
+enum-known-n : tie.Need-enum-known-n
+enum-known-n c = search needs
+
+same-length : tie.Need-same-length
+same-length c = search needs
 
 returns : tie.Need-returns
 unfolding constantOf
 returns c =
-    simp
-    (le-leb _ _ (c .if1 .taken))
-
-mul-at : tie.Need-mul-at
-mul-at c = search needs
-
-mul-start : tie.Need-mul-start
-mul-start c = search needs
-
-shared-slice-read-start : tie.Need-shared-slice-read-start
-shared-slice-read-start c = search needs
-
-add-length : tie.Need-add-length
-add-length c = search needs
-
-mul-length : tie.Need-mul-length
-mul-length c = search needs
-
-shared-slice-read-length : tie.Need-shared-slice-read-length
-shared-slice-read-length c = search needs
+    simp (
+      c .before .before .copy-out .ensures,
+      c .before .before .before .before .before .start .given .1,
+      ← c .before .before .before .before .before .before .before .constant-access .ensures,
+    )
 
 returns-2 : tie.Need-returns-2
 unfolding constantOf
 returns-2 c =
     simp (
-      lt-ltb _ _ (c .if2 .taken),
-      lt-leb _ _ (c .before .before .before .if1 .left),
-    )
-
-sub-if3 : tie.Need-sub-if3
-sub-if3 c = search needs
-
-returns-3 : tie.Need-returns-3
-unfolding constantOf
-returns-3 c =
-    simp (
-      lt-ltb _ _ (c .if3 .taken),
-      le-ltb _ _ (c .before .if2 .left),
-      lt-leb _ _ (c .before .before .before .before .if1 .left),
-    )
-
-returns-4 : tie.Need-returns-4
-unfolding constantOf
-returns-4 c =
-    simp (
-      lt-ltb _ _ (c .if4 .taken),
-      le-ltb _ _ (c .before .if3 .left),
-      le-ltb _ _ (c .before .before .if2 .left),
-      lt-leb _ _ (c .before .before .before .before .before .if1 .left),
-    )
-
-copy-out-requires : tie.Need-copy-out-requires
-copy-out-requires c κs = search needs
-
-same-length : tie.Need-same-length
-same-length c = search needs
-
-returns-5 : tie.Need-returns-5
-unfolding constantOf
-returns-5 c =
-    simp (
-      c .before .before .copy-out .ensures,
-      le-ltb _ _ (c .before .before .before .before .if4 .left),
-      le-ltb _ _ (c .before .before .before .before .before .if3 .left),
-      le-ltb _ _ (c .before .before .before .before .before .before .if2 .left),
-      lt-leb _ _ (c .before .before .before .before .before .before .before .before .before .if1 .left),
+      c .before .n .given .1,
+      ← c .before .before .before .constant-access .ensures,
     )
 
 pub read-constant-spec : {M : Type 1} → statement M
 read-constant-spec =
     tie.close
     (tie.spec
-    returns
-    mul-at
-    mul-start
-    shared-slice-read-start
-    add-length
-    mul-length
-    shared-slice-read-length
-    returns-2
-    sub-if3
-    returns-3
-    returns-4
+    constant-access-requires
+    enum-known-start
     copy-out-requires
+    enum-known-n
     same-length
-    returns-5)
+    returns
+    returns-2)

@@ -1,0 +1,309 @@
+-- Values through pointers: their bytes written and read again, and what Write, Read, Initialize and Copy leave.
+use Prim.Native.Nat.{ℕ, zero, suc, _+_, _-_, _<_, _≤_}
+use native.Mathlib.Nat.{sub-zero}
+use native.Mathlib.Omega.{arith}
+use mathlib.Core.Path.{_≡_, refl, sym, ap, _∙_, subst}
+use mathlib.Core.List.{List, [], _∷_, _++_}
+use mathlib.Core.Option.{Option, none, some}
+use lib.Dec.{T, ltb, lt→ltb}
+use mir.Facts.{yes-and}
+use lib.ListN.{length, getD, take, drop, replicate, length-replicate, length-append}
+use lib.Seq.{take-at, length-take-le, getD-drop}
+use borrow.Author.Tests.{eq-eqb, ne-eqb, le-leb, lt-ltb, le-ltb}
+use Rattle.value.specs.Refusal.{notSound, noInstruction, bytesExceedSize}
+use Rattle.value.specs.Answer.{Answer, ok, refused}
+use Rattle.value.specs.Value.{Value, IrType, Boolean, U8, U16, U32, U64, I8, I16, I32, I64, F32, F64, Pointer, kindOf, tag, size, bytesOf, fromBytes}
+use Rattle.value.specs.Tags.{kindAt, typeAt, holds}
+use Rattle.value.specs.Ir.{valueOf, typeOf, irType, made, tagged, written, answered, loaded}
+use Rattle.value.specs.declared.IrValue.{IrValue}
+use Rattle.value.specs.declared.IrType as T
+use Rattle.value.specs.declared.Made.the-variants as M
+use Rattle.value.specs.declared.Tagged.the-variants as Tg
+use Rattle.value.proofs.LowFirst.{length-bytes, size-small}
+use Rattle.value.proofs.Roundtrip.{bits-back}
+use Rattle.machine.specs.Sound.{all, areBytes}
+use Rattle.machine.proofs.Values.{Keeps, kept, Good, Bytes, read-good}
+use Rattle.memory.specs.Tables.{Tables, Both, both, tables, out, readAccessOf, constantAccessOf, constantOf, takenAt, getAt, readOf, allocatedOf, writtenOf, copiedOf}
+use Rattle.memory.specs.declared.Registers.{Registers}
+use Rattle.memory.specs.declared.Given.{Given}
+use Rattle.memory.specs.declared.Given.the-variants as given
+use Rattle.memory.specs.declared.Source.{Source}
+use Rattle.memory.specs.declared.Source.the-variants as source
+use Rattle.memory.specs.declared.Place.{Place}
+use Rattle.memory.specs.declared.Place.the-variants as place
+use Rattle.memory.specs.declared.Outcome.{Outcome}
+use Rattle.memory.specs.declared.Outcome.the-variants as outcome
+use Rattle.memory.proofs.Laws.{read-fits, constant-fits}
+use Rattle.memory.proofs.Tab.{part-length}
+use Rattle.instruction.specs.Decode.{fieldAt, operandAt}
+use Rattle.instruction.specs.Compute.{foundOf}
+use Rattle.instruction.specs.Variables.{found, evaluated}
+use Rattle.instruction.specs.Code.{stepped, finishedOf}
+use Rattle.instruction.specs.Storage.{asPointerOf, pointedOf, progressOf, storedOf, storedBy, writeOf, loadedAs, valueIn, readAs, readBy, readingOf, givenBy, madeOf, initializedOf, copyingOf}
+use Rattle.instruction.specs.declared.field.Field.{Field}
+use Rattle.instruction.specs.declared.field.Operand.{Operand}
+use Rattle.instruction.specs.declared.variables.Found.{Found}
+use Rattle.instruction.specs.declared.step.Progress.{Progress}
+use Rattle.instruction.specs.declared.step.Progress.the-variants.{Refused}
+use Rattle.instruction.proofs.Computed.{is-true, refused-first, value-first, unsound-first}
+
+-- ---- a value's bytes, written
+
+-- a fresh array of eight bytes
+abbrev pub zeros : List ℕ
+zeros = 0 ∷ 0 ∷ 0 ∷ 0 ∷ 0 ∷ 0 ∷ 0 ∷ 0 ∷ []
+
+bytes-length : (v : Value) → length (bytesOf v) ≡ size (v .kind)
+unfolding bytesOf
+bytes-length v = length-bytes (size (v .kind)) (v .bits)
+
+-- what `IrValue::write` leaves of an array of eight has the value's bytes in front
+module _ (v : Value) (n : ℕ) (after : List ℕ) (e : n ≡ size (v .kind)) (h : after ≡ written (bytesOf v) zeros) where
+  front : after ≡ bytesOf v ++ drop (length (bytesOf v)) zeros
+  front =
+      let k = bytes-length v in
+      let s = size-small (v .kind) in
+      h ∙ rw (le-leb (length (bytesOf v)) 8 (omega arith))
+
+  pub bytes-fit : n ≤ length after
+  bytes-fit =
+      let k = bytes-length v in
+      rw front (rw length-append (omega arith))
+
+  pub bytes-in-front : take (n - 0) after ≡ bytesOf v
+  bytes-in-front =
+      ap (λ (i : ℕ). take i after) (sub-zero n ∙ e) ∙ ap (take (size (v .kind))) front
+      ∙ take-at (bytesOf v) (drop (length (bytesOf v)) zeros) (size (v .kind)) (bytes-length v)
+
+module _ (t : Tables) (p : ℕ) (v : Found) where
+  pub not-stored : v .tag ≡ 0 → both (outcome.Refused (v .bits)) (t .store) ≡ storedOf t p v
+  unfolding storedOf
+  not-stored e = sym (ap (storedBy t p) (refused-first v e))
+
+  module _ (n : v .tag ≡ 0 → ⊥) where
+    pub stored-unsound : made (kindAt (v .tag)) (v .bits) ≡ M.Nothing → both (outcome.Refused notSound) (t .store) ≡ storedOf t p v
+    unfolding storedOf
+    stored-unsound e = sym (ap (storedBy t p) (unsound-first v n e))
+
+    pub stored-value : (w : IrValue) → made (kindAt (v .tag)) (v .bits) ≡ M.Value w → (bytes : List ℕ) → bytes ≡ bytesOf (valueOf w) → (r : Both Outcome) → r ≡ writtenOf t p bytes
+        → r ≡ storedOf t p v
+    unfolding storedOf
+    stored-value w e bytes b r h = h ∙ ap (writtenOf t p) b ∙ sym (ap (storedBy t p) (value-first v n w e))
+
+-- ---- Write
+
+module _ (t : Tables) (s vars : List ℕ) (at : ℕ) (to : Operand) (e : to ≡ operandAt s at) (x p : Found) (d : x ≡ evaluated vars to) (f : p ≡ foundOf (asPointerOf x)) where
+  pub not-wrote : p .tag ≡ 0 → both (Refused (p .bits)) (t .store) ≡ writeOf t s vars at
+  unfolding writeOf
+  not-wrote n = simp (← e, ← d, ← f, eq-eqb _ _ n)
+
+  pub wrote : (p .tag ≡ 0 → ⊥) → (what : Operand) (v : Found) (r : Outcome) (store : List ℕ) (a : Progress) → what ≡ operandAt s (to .next) → v ≡ evaluated vars what
+      → both r store ≡ storedOf t (p .bits) v → a ≡ progressOf (t .registers) r → both a store ≡ writeOf t s vars at
+  unfolding writeOf
+  wrote n what v r store a g h i j = simp (← e, ← d, ← f, ne-eqb _ _ n, ← g, ← h, ← i, j)
+
+-- ---- a value's bytes, read
+
+-- what is read does not depend on what the buffer held
+same-taken : (ty : IrType) (a b raw : List ℕ) → length a ≡ length b → (x : Place)
+    → valueIn ty (takenAt x b raw .answer) (takenAt x b raw .table) ≡ valueIn ty (takenAt x a raw .answer) (takenAt x a raw .table)
+same-taken ty a b raw e (place.At at) = ap (λ (n : ℕ). fromBytes ty (take n (drop at raw))) (sym e)
+same-taken ty a b raw e (place.Refused n) = refl
+
+same-got : (ty : IrType) (store a b raw extents : List ℕ) → length a ≡ length b → (x : Source)
+    → valueIn ty (getAt x store b raw extents .answer) (getAt x store b raw extents .table) ≡ valueIn ty (getAt x store a raw extents .answer) (getAt x store a raw extents .table)
+unfolding constantOf
+same-got ty store a b raw extents e (source.Local at) = ap (λ (n : ℕ). fromBytes ty (take n (drop at store))) (sym e)
+same-got ty store a b raw extents e (source.Constant k) =
+    ap (λ (n : ℕ). valueIn ty (takenAt (constantAccessOf k n raw extents) b raw .answer) (takenAt (constantAccessOf k n raw extents) b raw .table)) (sym e)
+    ∙ same-taken ty a b raw e (constantAccessOf k (length a) raw extents)
+same-got ty store a b raw extents e (source.Refused n) = refl
+
+-- each element is a byte
+abbrev pub Small : List ℕ → Type 0
+Small l = (i : ℕ) → getD l i 0 < 256
+
+are-bytes : (l : List ℕ) → Small l → T (areBytes l)
+unfolding all
+are-bytes [] h = tt
+are-bytes (b ∷ bs) h = yes-and (ltb b 256) (areBytes bs) (lt→ltb b 256 (h 0)) (are-bytes bs (λ i. h (suc i)))
+
+small-take : (n : ℕ) (l : List ℕ) → Small l → Small (take n l)
+small-take zero l h i = omega arith
+small-take (suc n) [] h i = omega arith
+small-take (suc n) (x ∷ xs) h zero = h 0
+small-take (suc n) (x ∷ xs) h (suc i) = small-take n xs (λ j. h (suc j)) i
+
+small-part : (l : List ℕ) (at n : ℕ) → Small l → Small (take n (drop at l))
+small-part l at n h = small-take n (drop at l) (λ i. rw getD-drop (h (at + i)))
+
+part-bytes : (l : List ℕ) (at n : ℕ) → at + n ≤ length l → Small l → Bytes n (take n (drop at l))
+part-bytes l at n h s = (part-length l at n h, are-bytes (take n (drop at l)) (small-part l at n s))
+
+done-refused : {n : ℕ} {a b : List ℕ} → both outcome.Done a ≡ both (outcome.Refused n) b → ⊥
+done-refused e =
+    let same = ap (λ (r : Both Outcome). r .answer) e in
+    let z : _≡_ {A = ℕ} 0 1 = cc in
+    omega arith
+
+-- and back to tag and bits
+loaded-back : (a : Answer Value) → Keeps Good a → loadedAs (answered a) ≡ foundOf a
+unfolding answered
+loaded-back (ok v) (kept g) = ap (λ (w : Value). found (tag (w .kind)) (w .bits)) (bits-back (v .kind) (v .bits) (is-true (holds (v .kind) (v .bits)) g))
+loaded-back (refused n) k = refl
+
+module _ (t : Tables) (p : ℕ) (raw extents buffer : List ℕ) (stored : Small (t .store)) (held : Small raw) where
+  taken-bytes : (k : ℕ) (x : Place) → constantAccessOf k (length buffer) raw extents ≡ x → (bs : List ℕ) → both outcome.Done bs ≡ takenAt x buffer raw → Bytes (length buffer) bs
+  taken-bytes k (place.At at) e bs h =
+      let same : bs ≡ take (length buffer) (drop at raw) = ap (λ (r : Both Outcome). r .table) h in
+      subst (λ (l : List ℕ). Bytes (length buffer) l) (sym same) (part-bytes raw at (length buffer) (constant-fits k (length buffer) raw extents at e) held)
+  taken-bytes k (place.Refused n) e bs h = absurd (done-refused h)
+
+  got-bytes : (x : Source) → readAccessOf t p (length buffer) ≡ x → (bs : List ℕ) → both outcome.Done bs ≡ getAt x (t .store) buffer raw extents → Bytes (length buffer) bs
+  unfolding constantOf
+  got-bytes (source.Local at) e bs h =
+      let same : bs ≡ take (length buffer) (drop at (t .store)) = ap (λ (r : Both Outcome). r .table) h in
+      subst (λ (l : List ℕ). Bytes (length buffer) l) (sym same) (part-bytes (t .store) at (length buffer) (read-fits t p (length buffer) at e) stored)
+  got-bytes (source.Constant k) e bs h = taken-bytes k (constantAccessOf k (length buffer) raw extents) refl bs h
+  got-bytes (source.Refused n) e bs h = absurd (done-refused h)
+
+  read-bytes : (bs : List ℕ) → both outcome.Done bs ≡ readOf t p buffer raw extents → Bytes (length buffer) bs
+  unfolding readOf
+  read-bytes bs h = got-bytes (readAccessOf t p (length buffer)) refl bs h
+
+module _ (t : Tables) (p : ℕ) (ty : IrType) (raw extents buffer : List ℕ) (l : length buffer ≡ size (kindOf ty)) where
+  as-read : (r : Outcome) (bs : List ℕ) → both r bs ≡ readOf t p buffer raw extents → valueIn ty r bs ≡ readAs t p ty raw extents
+  unfolding readAs readOf
+  as-read r bs h =
+      let n = size (kindOf ty) in
+      let z : length {A = ℕ} (replicate n 0) ≡ n = length-replicate n 0 in
+      ap (λ (x : Both Outcome). valueIn ty (x .answer) (x .table)) h
+      ∙ same-got ty (t .store) (replicate n 0) buffer raw extents (z ∙ sym l) (readAccessOf t p (length buffer))
+      ∙ ap (λ (k : ℕ). valueIn ty (getAt (readAccessOf t p k) (t .store) (replicate n 0) raw extents .answer) (getAt (readAccessOf t p k) (t .store) (replicate n 0) raw extents .table)) (l ∙ sym z)
+
+  pub not-read : (r : Outcome) (bs : List ℕ) → both r bs ≡ readOf t p buffer raw extents → (n : ℕ) → r ≡ outcome.Refused n → found 0 n ≡ foundOf (readAs t p ty raw extents)
+  not-read r bs h n d = ap foundOf (sym (ap (λ (o : Outcome). valueIn ty o bs) d) ∙ as-read r bs h)
+
+  pub read-typed : Small (t .store) → Small raw → (r : Outcome) (bs : List ℕ) → both r bs ≡ readOf t p buffer raw extents → r ≡ outcome.Done
+      → (rest : List ℕ) → loadedAs (loaded ty (bs ++ rest)) ≡ foundOf (readAs t p ty raw extents)
+  unfolding loaded
+  read-typed stored held r bs f d rest =
+      let h : both outcome.Done bs ≡ readOf t p buffer raw extents = ap (λ (o : Outcome). both o bs) (sym d) ∙ f in
+      let n = size (kindOf ty) in
+      let g : Bytes n bs = subst (λ (k : ℕ). Bytes k bs) l (read-bytes t p raw extents buffer stored held bs h) in
+      let e : length bs ≡ n = g .0 in
+      let m : n ≤ length (bs ++ rest) = rw length-append (omega arith) in
+      rw (le-leb n (length (bs ++ rest)) m, take-at bs rest n e)
+      (loaded-back (fromBytes ty bs) (read-good ty bs g) ∙ ap foundOf (as-read outcome.Done bs h))
+
+-- a part of a fresh array of eight
+pub zeros-part : (ty : IrType) (n : ℕ) → n ≡ size (kindOf ty) → length (take (n - 0) zeros) ≡ size (kindOf ty)
+zeros-part ty n e =
+    let s = size-small (kindOf ty) in
+    length-take-le (n - 0) zeros (omega arith) ∙ sub-zero n ∙ e
+
+-- ---- Read
+
+there-and-back : (ty : IrType) → typeOf (irType ty) ≡ ty
+unfolding typeOf irType
+there-and-back Boolean = refl
+there-and-back U8 = refl
+there-and-back U16 = refl
+there-and-back U32 = refl
+there-and-back U64 = refl
+there-and-back I8 = refl
+there-and-back I16 = refl
+there-and-back I32 = refl
+there-and-back I64 = refl
+there-and-back F32 = refl
+there-and-back F64 = refl
+there-and-back Pointer = refl
+
+module _ (t : Tables) (p : ℕ) (s extents : List ℕ) where
+  pub read-none : (o : Option IrType) → tagged o ≡ Tg.Nothing → refused noInstruction ≡ readBy t p o s extents
+  unfolding tagged
+  read-none none e = refl
+  read-none (some ty) e = absurd (let z : _≡_ {A = ℕ} 0 1 = cc in omega arith)
+
+  pub read-some : (o : Option IrType) (ty : T.IrType) → tagged o ≡ Tg.Type ty → readAs t p (typeOf ty) s extents ≡ readBy t p o s extents
+  unfolding tagged
+  read-some none ty e = absurd (let z : _≡_ {A = ℕ} 0 1 = cc in omega arith)
+  read-some (some u) ty e =
+      let same : ty ≡ irType u = cc in
+      ap (λ (w : IrType). readAs t p w s extents) (ap typeOf same ∙ there-and-back u)
+
+module _ (t : Tables) (s extents vars : List ℕ) (at : ℕ) (to : Field) (from : Operand) (type : Field) (x p : Found)
+    (e : to ≡ fieldAt s at) (d : from ≡ operandAt s (to .next)) (f : type ≡ fieldAt s (from .next)) (g : x ≡ evaluated vars from) (h : p ≡ foundOf (asPointerOf x)) where
+  pub no-place : p .tag ≡ 0 → both (Refused (p .bits)) vars ≡ readingOf t s extents vars at
+  unfolding readingOf
+  no-place n = simp (← e, ← d, ← g, ← h, eq-eqb _ _ n)
+
+  pub no-type : (p .tag ≡ 0 → ⊥) → tagged (typeAt (type .value)) ≡ Tg.Nothing → both (Refused noInstruction) vars ≡ readingOf t s extents vars at
+  unfolding readingOf finishedOf
+  no-type n i = simp (← e, ← d, ← f, ← g, ← h, ne-eqb _ _ n, ← read-none t (p .bits) s extents (typeAt (type .value)) i)
+
+  pub has-read : (p .tag ≡ 0 → ⊥) → (ty : T.IrType) → tagged (typeAt (type .value)) ≡ Tg.Type ty → (v : Found) → v ≡ foundOf (readAs t (p .bits) (typeOf ty) s extents)
+      → (r : Both Progress) → r ≡ finishedOf (t .registers) vars (to .value) v → r ≡ readingOf t s extents vars at
+  unfolding readingOf
+  has-read n ty i v j r k =
+      simp (← e, ← d, ← f, ← g, ← h, ne-eqb _ _ n, ← read-some t (p .bits) s extents (typeAt (type .value)) ty i, ← j) k
+
+-- ---- Initialize
+
+module _ (t : Tables) (n : ℕ) (bytes : List ℕ) (g : Given) (s f b p : List ℕ) (e : out g s f b p ≡ allocatedOf t n) where
+  pub not-made : (number : ℕ) → g ≡ given.Refused number → out (given.Refused number) s f b p ≡ madeOf t n bytes
+  unfolding madeOf
+  not-made number d = simp (← e, d)
+
+  module _ (q : ℕ) (m : Registers) (d : g ≡ given.Made q m) (r : Outcome) (s′ : List ℕ) (h : both r s′ ≡ writtenOf (tables m s f b p) q bytes) where
+    filled : out (givenBy r q m) s′ f b p ≡ madeOf t n bytes
+    unfolding madeOf
+    filled = simp (← e, d, ← h)
+
+    pub made-filled : r ≡ outcome.Done → out (given.Made q m) s′ f b p ≡ madeOf t n bytes
+    made-filled i = sym (ap (λ (o : Outcome). out (givenBy o q m) s′ f b p) i) ∙ filled
+
+    pub not-filled : (number : ℕ) → r ≡ outcome.Refused number → out (given.Refused number) s′ f b p ≡ madeOf t n bytes
+    not-filled number i = sym (ap (λ (o : Outcome). out (givenBy o q m) s′ f b p) i) ∙ filled
+
+module _ (t : Tables) (s vars : List ℕ) (at : ℕ) (to n count : Field) (e : to ≡ fieldAt s at) (d : n ≡ fieldAt s (to .next)) (f : count ≡ fieldAt s (n .next)) where
+  pub exceeds : n .value < count .value → stepped (Refused bytesExceedSize) (t .store) (t .frames) (t .bounds) (t .pointers) vars ≡ initializedOf t s vars at
+  unfolding initializedOf
+  exceeds g = simp (← e, ← d, ← f, lt-ltb _ _ g)
+
+  pub no-start : count .value ≤ n .value → length s < count .next → stepped (Refused noInstruction) (t .store) (t .frames) (t .bounds) (t .pointers) vars ≡ initializedOf t s vars at
+  unfolding initializedOf
+  no-start g h = simp (← e, ← d, ← f, le-ltb _ _ g, lt-ltb _ _ h)
+
+  pub no-end : count .value ≤ n .value → count .next ≤ length s → length s - count .next < count .value
+      → stepped (Refused noInstruction) (t .store) (t .frames) (t .bounds) (t .pointers) vars ≡ initializedOf t s vars at
+  unfolding initializedOf
+  no-end g h i = simp (← e, ← d, ← f, le-ltb _ _ g, le-ltb _ _ h, lt-ltb _ _ i)
+
+  pub initialized : count .value ≤ n .value → count .next ≤ length s → count .value ≤ length s - count .next
+      → (r : Given) (store frames bounds pointers : List ℕ) → out r store frames bounds pointers ≡ madeOf t (n .value) (take (count .next + count .value - count .next) (drop (count .next) s))
+      → (a : Progress) (vars′ : List ℕ) → both a vars′ ≡ pointedOf r vars (to .value)
+      → stepped a store frames bounds pointers vars′ ≡ initializedOf t s vars at
+  unfolding initializedOf
+  initialized g h i r store frames bounds pointers j a vars′ k =
+      let w : count .next + count .value - count .next ≡ count .value = omega arith in
+      simp (← e, ← d, ← f, le-ltb _ _ g, le-ltb _ _ h, le-ltb _ _ i, ← (rw w at j))
+      (ap (λ (o : Both Progress). stepped (o .answer) store frames bounds pointers (o .table)) k)
+
+-- ---- Copy
+
+module _ (t : Tables) (s extents vars : List ℕ) (at : ℕ) (to from : Operand) (x p : Found) (e : to ≡ operandAt s at) (d : from ≡ operandAt s (to .next))
+    (f : x ≡ evaluated vars to) (g : p ≡ foundOf (asPointerOf x)) where
+  pub no-to : p .tag ≡ 0 → both (Refused (p .bits)) (t .store) ≡ copyingOf t s extents vars at
+  unfolding copyingOf
+  no-to n = simp (← e, ← d, ← f, ← g, eq-eqb _ _ n)
+
+  module _ (n : p .tag ≡ 0 → ⊥) (y q : Found) (h : y ≡ evaluated vars from) (i : q ≡ foundOf (asPointerOf y)) where
+    pub no-from : q .tag ≡ 0 → both (Refused (q .bits)) (t .store) ≡ copyingOf t s extents vars at
+    unfolding copyingOf
+    no-from j = simp (← e, ← d, ← f, ← g, ne-eqb _ _ n, ← h, ← i, eq-eqb _ _ j)
+
+    pub copied : (q .tag ≡ 0 → ⊥) → (count : Field) → count ≡ fieldAt s (from .next) → (r : Outcome) (store : List ℕ) → both r store ≡ copiedOf t (p .bits) (q .bits) (count .value) s extents
+        → (a : Progress) → a ≡ progressOf (t .registers) r → both a store ≡ copyingOf t s extents vars at
+    unfolding copyingOf
+    copied j count k r store l a m = simp (← e, ← d, ← f, ← g, ne-eqb _ _ n, ← h, ← i, ne-eqb _ _ j, ← k, ← l, m)

@@ -1,0 +1,61 @@
+-- `step::branch` meets its contract. The loop's invariant: what is left of the branches gives what all of them give. The measure is how many are left.
+use native.Mathlib.Omega.{arith}
+use mathlib.Core.Path.{_≡_, refl, sym, _∙_}
+use borrow.Author.Needs.{needs}
+use Rattle.instruction.specs.Code.{branchOf}
+use Rattle.instruction.proofs.Laws.{branch-hit, branch-on, branch-none}
+use Rattle.instruction.proofs.step.branch.Statement.{statement}
+use Rattle.instruction.proofs.step.branch.Tie as tie
+
+abbrev Inv-loop : tie.InvT-loop
+Inv-loop image start count bits at₀ left₀ at left = branchOf image left bits at ≡ branchOf image count bits start
+
+abbrev μ-loop : tie.MeasureT-loop
+μ-loop image start count bits at₀ left₀ at left = left
+
+loop-holds : tie.Need-loop-holds Inv-loop μ-loop
+loop-holds c = refl
+
+read-field-requires : tie.Need-read-field-requires Inv-loop μ-loop
+read-field-requires c κs = search needs
+
+read-field-requires-2 : tie.Need-read-field-requires-2 Inv-loop μ-loop
+read-field-requires-2 c κs = search needs
+
+returns : tie.Need-returns Inv-loop μ-loop
+returns c =
+    sym (branch-hit _ _ _ _ _ (c .before .before .before .read-field .ensures) (c .before .before .read-field2 .ensures) _ (c .before .before .before .before .loop-test .taken) (c .if1 .taken))
+    ∙ c .before .before .before .before .before .loop .inv
+
+sub-left : tie.Need-sub-left Inv-loop μ-loop
+sub-left c = search needs
+
+loop-less : tie.Need-loop-less Inv-loop μ-loop
+loop-less c = omega arith
+
+loop-again : tie.Need-loop-again Inv-loop μ-loop
+loop-again c =
+    sym (branch-on _ _ _ _ _ (c .before .before .before .read-field .ensures) (c .before .before .read-field2 .ensures) _ (c .before .before .before .before .loop-test .taken) (c .if1 .left))
+    ∙ c .before .before .before .before .before .loop .inv
+
+read-field-requires-3 : tie.Need-read-field-requires-3 Inv-loop μ-loop
+read-field-requires-3 c κs = search needs
+
+returns-2 : tie.Need-returns-2 Inv-loop μ-loop
+returns-2 c = c .read-field3 .ensures ∙ sym (branch-none _ _ _ _ (omega arith)) ∙ c .before .before .loop .inv
+
+pub branch-spec : {M : Type 1} → statement M
+branch-spec =
+    tie.close
+    (tie.spec
+    Inv-loop
+    μ-loop
+    loop-holds
+    read-field-requires
+    read-field-requires-2
+    returns
+    sub-left
+    loop-less
+    loop-again
+    read-field-requires-3
+    returns-2)

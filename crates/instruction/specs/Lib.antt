@@ -1,0 +1,5 @@
+pub mod Variables
+pub mod Decode
+pub mod Compute
+pub mod Code
+pub mod Storage

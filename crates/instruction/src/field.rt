@@ -1,0 +1,42 @@
+// Fields of an instruction that was accepted: numbers, read one after another.
+ghost use mathlib.Core.Path.{_≡_};
+ghost use Rattle.instruction.specs.Decode.{fieldAt, operandAt};
+use image::number::Number;
+use image::number::read_number;
+
+// A number and the place after it. Place 0 is no field's: refused, and so is what is read from there.
+pub struct Field {
+    pub value: u64,
+    pub next: usize,
+}
+
+// An operand's tag and its variable or bits, and the place after it.
+pub struct Operand {
+    pub tag: u64,
+    pub bits: u64,
+    pub next: usize,
+}
+
+pub fn read_field(image: &[u8], at: usize) -> Field
+    ensures { λ r. ⌜ r ≡ fieldAt (now (image .entry)) at ⌝ }
+{
+    if at == 0 {
+        return Field { value: 0, next: 0 };
+    }
+    match read_number(image, at) {
+        Number::Value(value, next) => Field { value, next },
+        Number::Bad(_, _) => Field { value: 0, next: 0 },
+    }
+}
+
+pub fn read_operand(image: &[u8], at: usize) -> Operand
+    ensures { λ r. ⌜ r ≡ operandAt (now (image .entry)) at ⌝ }
+{
+    let tag = read_field(image, at);
+    let bits = read_field(image, tag.next);
+    Operand {
+        tag: tag.value,
+        bits: bits.value,
+        next: bits.next,
+    }
+}
