@@ -1,0 +1,12 @@
+pub mod Laws
+pub mod Rooms
+pub mod Undo
+pub mod Sets
+pub mod Enters
+pub mod Starts
+pub mod SlotsAgree
+pub mod EnterAgrees
+pub mod VariablesAgree
+pub mod CallAgrees
+pub mod Stands
+pub mod StartAgrees

@@ -1,0 +1,5 @@
+pub mod Fields
+pub mod Room
+pub mod Variables
+pub mod Code
+pub mod Begin
