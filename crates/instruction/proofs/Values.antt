@@ -90,7 +90,7 @@ tag-some char = refl
 tag-some asn = refl
 tag-some pointer = refl
 
-stored-value : (k : Kind) (b : ℕ) → storedValue (tag k) b ≡ some (value k b)
+pub stored-value : (k : Kind) (b : ℕ) → storedValue (tag k) b ≡ some (value k b)
 unfolding storedValue tag
 stored-value bool b = refl
 stored-value u8 b = refl

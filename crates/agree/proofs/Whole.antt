@@ -1,0 +1,55 @@
+-- A sound state is seen as a sound machine: the memory's tests are its own theorem, and bytes of the store are bytes of the allocations.
+use Prim.Native.Nat.{ℕ, zero, suc, _+_, _-_, _*_}
+use mathlib.Core.Bool.{Bool, true}
+use mathlib.Core.Path.{_≡_}
+use mathlib.Core.List.{List, [], _∷_, _++_}
+use lib.ListN.{getD}
+use lib.Dec.{T}
+use mir.Facts.{and-yes, yes-and}
+use Rattle.memory.specs.Memory.{Frame, readBytes}
+use Rattle.memory.specs.Sound.{soundMachine, typed}
+use Rattle.memory.specs.Tables.{State, soundOf}
+use Rattle.memory.specs.View.{tab, bytesOf, allocationsIn, frameIn, view}
+use Rattle.memory.proofs.Whole.{sound-seen}
+use Rattle.machine.specs.Sound.{all, areBytes, bytesIn, sound}
+use Rattle.machine.proofs.Sound.{sound-held}
+use Rattle.machine.proofs.SoundMemory.{later-same, sounds-kept}
+use Rattle.machine.proofs.Values.{Keeps, Bytes}
+use Rattle.agree.specs.Seen.{Bytewise, seen}
+use Rattle.agree.proofs.Bytes.{part-bytes, are-bytes}
+
+is-yes : {b : Bool} → b ≡ true → T b
+is-yes e = rw e tt
+
+all-join : {A : Type 0} (f : A → Bool) (l r : List A) → T (all f l) → T (all f r) → T (all f (l ++ r))
+unfolding all
+all-join f [] r t u = u
+all-join f (x ∷ l) r t u = let v = and-yes (f x) (all f l) t in yes-and (f x) (all f (l ++ r)) (v .0) (all-join f l r (v .1) u)
+
+all-tab : {A : Type 0} (f : A → Bool) (n : ℕ) (g : ℕ → A) → ((i : ℕ) → T (f (g i))) → T (all f (tab n g))
+unfolding tab all
+all-tab f zero g h = tt
+all-tab f (suc n) g h = all-join f (tab n g) (g n ∷ []) (all-tab f n g h) (yes-and (f (g n)) true (h n) tt)
+
+module _ (s : State) (h : soundOf s ≡ true) (bytes : Bytewise (s .memory .store)) where
+  allocation-bytes : (k : ℕ) → T (areBytes (bytesOf (s .memory .bounds) (s .memory .store) k))
+  allocation-bytes k =
+      let b = s .memory .bounds in
+      are-bytes (bytesOf b (s .memory .store) k) (part-bytes (s .memory .store) (getD b k 0) (getD b (k + 1) 0 - getD b k 0) bytes)
+
+  frames-bytes : T (bytesIn (view (s .memory) .frames))
+  unfolding view bytesIn allocationsIn
+  frames-bytes =
+      let t = s .memory in
+      all-tab (λ (f : Frame). all areBytes (f .allocations)) (t .registers .depth) (frameIn (t .frames) (t .bounds) (t .store))
+      (λ i. all-tab areBytes _ (λ j. bytesOf (t .bounds) (t .store) (getD (t .frames) (i * 4 + 3) 0 + j)) (λ j. allocation-bytes (getD (t .frames) (i * 4 + 3) 0 + j)))
+
+  pub seen-sound : T (sound (seen s))
+  unfolding sound
+  seen-sound =
+      let e = sound-seen s h in
+      yes-and (soundMachine (seen s .memory) (seen s .running) (seen s .place) (seen s .vars)) _ (is-yes (e .0)) (yes-and (typed (seen s .vars) 256) _ (is-yes (e .1)) frames-bytes)
+
+  -- what is read are so many bytes
+  pub read-bytes : (constants : List (List ℕ)) → T (all areBytes constants) → (p n : ℕ) → Keeps (Bytes n) (readBytes constants (view (s .memory)) p n)
+  read-bytes constants fine p n = sounds-kept (view (s .memory)) .read (sound-held {m₀ = view (s .memory)} {s = seen s} seen-sound (later-same (view (s .memory))) .memory) constants fine p n

@@ -1,0 +1,58 @@
+-- A state's tables as the machine a reader believes, and what an instruction's answer says of it, with the tables after it.
+use Prim.Native.Nat.{ℕ, _<_}
+use lib.ListN.{getD}
+use mathlib.Core.Bool.{true}
+use mathlib.Core.Path.{_≡_}
+use mathlib.Core.List.{List}
+use mathlib.Core.Option.{Option}
+use Rattle.value.specs.Answer.{Answer, ok, refused}
+use Rattle.value.specs.Value.{Value}
+use Rattle.memory.specs.Memory.{Memory}
+use Rattle.memory.specs.Tables.{State, soundOf}
+use Rattle.memory.specs.Stored.{storedValue}
+use Rattle.memory.specs.View.{view, runningIn, variablesIn}
+use Rattle.memory.specs.declared.Registers.{Registers}
+use Rattle.machine.specs.Machine.{Machine, Stepped, went, ended}
+use Rattle.instruction.specs.declared.variables.Found.{Found}
+use Rattle.instruction.specs.declared.step.Progress.{Progress}
+use Rattle.instruction.specs.declared.step.Progress.the-variants.{Next, Ended, Refused}
+
+-- the memory by its view, and the rest of the machine beside it
+abbrev pub seen : State → Machine Memory
+seen s = record {
+  memory = view (s .memory);
+  running = runningIn (s .memory .registers .running);
+  place = s .memory .registers .next;
+  vars = variablesIn (s .variables);
+}
+
+-- the last Return's value; tag 0 is none
+abbrev pub returnedIn : Found → Option Value
+returnedIn v = storedValue (v .tag) (v .bits)
+
+-- `after` is the state with the tables as they are left and these registers
+abbrev pub outcome : Progress → (after : Registers → State) → Answer (Stepped Memory)
+outcome (Next m) after = ok (went (seen (after m)))
+outcome (Ended m v) after = ok (ended (returnedIn v) (seen (after m)))
+outcome (Refused n) after = refused n
+
+-- every element is a byte
+abbrev pub Bytewise : List ℕ → Type 0
+Bytewise l = (k : ℕ) → getD l k 0 < 256
+
+-- a state in which a step is defined: sound, running, and its store made of bytes
+pub record Runs (s : State) : Type 0 where
+  pub sound : soundOf s ≡ true
+  pub running : s .memory .registers .running ≡ 1
+  pub bytes : Bytewise (s .memory .store)
+
+-- the state after is sound again and its store made of bytes, and it runs unless it has ended; "A refusal leaves state and lent buffers untouched"
+abbrev pub Kept : (before : State) → Progress → (after : Registers → State) → Type 0
+Kept s (Next m) after = Runs (after m)
+Kept s (Ended m v) after = (soundOf (after m) ≡ true) × Bytewise (after m .memory .store)
+Kept s (Refused n) after = after (s .memory .registers) ≡ s
+
+-- the answer and the tables after it are the believed machine's answer, and sound
+pub record Agrees (before : State) (answer : Progress) (after : Registers → State) (believed : Answer (Stepped Memory)) : Type 0 where
+  pub same : outcome answer after ≡ believed
+  pub kept : Kept before answer after
