@@ -1,0 +1,7 @@
+pub mod Refused
+pub mod Lent
+pub mod Answers
+pub mod Sequence
+pub mod Told
+pub mod Tells
+pub mod Listed

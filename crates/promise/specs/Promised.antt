@@ -1,0 +1,112 @@
+-- What is promised of the compiled entries: seen through their tables they are the believed machine's, whoever calls them and in whatever order.
+use Prim.Native.Nat.{ℕ, _+_, _≤_, _<_}
+use mathlib.Core.Bool.{false}
+use mathlib.Core.Logic.{_↔_}
+use mathlib.Core.Path.{_≡_}
+use mathlib.Core.List.{List, _++_}
+use lib.ListN.{length, getD}
+use Rattle.value.specs.Refusal.{notSound, frameGone}
+use Rattle.image.specs.Parse.{took}
+use Rattle.image.specs.Program.{Program}
+use Rattle.image.specs.Image.{loaded}
+use Rattle.memory.specs.Tables.{State, state, tables, registers, freshOf, soundOf}
+use Rattle.machine.specs.Asks.{Ask, Reply, bytes, lists, refusal}
+use Rattle.machine.specs.Entries.{enter, answers, onwards}
+use Rattle.machine.specs.History.{ofPlace, madeAt, StandsFor, Ended, toldList}
+use Rattle.machine.specs.Demand.{tells, stateAfter, Right, Why}
+use Rattle.agree.specs.Seen.{seen, Bytewise}
+use Rattle.promise.specs.Calls.{Call, callRead, callWrite, callList, call, heard, shown, Good, room, Asks, Refuses, AllLent, AllAsk, Tells, heardBy, leftBy}
+
+-- ---- one call
+
+-- a call on a good state is what the machine makes of the ask, and leaves a good state
+pub record Answers (c : Call) (a : Ask) (t : State) : Type 0 where
+  pub same : shown (call c t) ≡ enter a (seen t)
+  pub good : Good (call c t .left)
+
+abbrev pub EntriesAnswer : Type 0
+EntriesAnswer = (c : Call) (a : Ask) → Asks c a → (t : State) → Good t → Answers c a t
+
+-- "Order: image, 10, ..": an image that is refused is answered by its number, before all else, and nothing changes
+abbrev pub ImagesRefused : Type 0
+ImagesRefused = (c : Call) (n : ℕ) → Refuses c n → (t : State) → call c t ≡ heard (refusal n) t
+
+-- "10 state not sound", and nothing changes
+abbrev pub UnsoundRefused : Type 0
+UnsoundRefused = (c : Call) (a : Ask) → Asks c a → (t : State) → soundOf t ≡ false → call c t ≡ heard (refusal notSound) t
+
+-- ---- any calls, in any order
+
+-- the replies are the machine's
+abbrev pub RepliesAreAnswers : Type 0
+RepliesAreAnswers = (cs : List Call) (as′ : List Ask) → AllAsk cs as′ → (t : State) → Good t → heardBy cs t ≡ answers as′ (seen t)
+
+-- whatever is called, it asks or its image is refused
+abbrev pub CallsTell : Type 0
+CallsTell = (cs : List Call) → AllLent cs → (as′ : List Ask) × Tells cs as′
+
+-- and so is the state that is left, also where images were refused in between
+pub record Follows (cs : List Call) (as′ : List Ask) (t : State) : Type 0 where
+  pub same : seen (leftBy cs t) ≡ onwards as′ (seen t)
+  pub good : Good (leftBy cs t)
+
+abbrev pub StatesFollow : Type 0
+StatesFollow = (cs : List Call) (as′ : List Ask) → Tells cs as′ → (t : State) → Good t → Follows cs as′ t
+
+-- ---- tables that began as fresh
+
+-- as `fresh` leaves them, whatever stood in tables of the right lengths
+pub data Begun : State → Type 0 where
+  begun : (s f b p v : List ℕ) → length s ≡ 32768 → length f ≡ 260 → length b ≡ 513 → length p ≡ 20480 → length v ≡ 512
+      → Begun (state (tables (registers 0 0 1 1 0) (freshOf s f b p v .store) (freshOf s f b p v .frames) (freshOf s f b p v .bounds) (freshOf s f b p v .pointers)) (freshOf s f b p v .variables))
+
+-- calls on fresh tables that tell as′, and the state that they leave
+pub record After (as′ : List Ask) (t : State) : Type 0 where
+  pub first : State
+  pub fresh : Begun first
+  pub calls : List Call
+  pub tell : Tells calls as′
+  pub left : leftBy calls first ≡ t
+
+-- the believed machine after them is what the host sees, and the host may go on
+abbrev pub FreshFollows : Type 0
+FreshFollows = (as′ : List Ask) (t : State) → After as′ t → (seen t ≡ stateAfter as′) × Good t
+
+-- ---- demand 3, of the code: `as′` is what was asked so far, `t` the registers and tables that the host holds
+
+-- an image that was loaded, and its program
+pub record Image (s : List ℕ) (P : Program) : Type 0 where
+  pub bytes : Bytewise s
+  pub end : ℕ
+  pub taken : loaded s ≡ took P end
+
+abbrev pub readOf : State → (image : List ℕ) → (p : ℕ) → (buffer : List ℕ) → Reply
+readOf t s p buffer = call (callRead s p buffer) t .reply
+
+-- 1. a host read is granted exactly when it is right
+abbrev pub CodeGrantsExactlyWhenRight : Type 0
+CodeGrantsExactlyWhenRight = (as′ : List Ask) (t : State) → After as′ t → (s : List ℕ) (P : Program) → Image s P → (p : ℕ) (buffer : List ℕ)
+    → ((bs : List ℕ) × (readOf t s p buffer ≡ bytes bs)) ↔ Right (tells as′) P p (length buffer)
+
+-- 2. each byte granted is the one last stored at that place of that allocation, or zero
+abbrev pub CodeReadsLastStored : Type 0
+CodeReadsLastStored = (as′ : List Ask) (t : State) → After as′ t → (s : List ℕ) (P : Program) → Image s P → (p : ℕ) (buffer : List ℕ) (f j o : ℕ) (bs : List ℕ)
+    → StandsFor (tells as′) p (ofPlace f j o) → readOf t s p buffer ≡ bytes bs
+    → (length bs ≡ length buffer) × ((i : ℕ) → i < length buffer → getD bs i 0 ≡ madeAt (tells as′ .made) f j .byte (o + i))
+
+-- 3. and the others are refused with their number
+abbrev pub CodeRefusesWithItsNumber : Type 0
+CodeRefusesWithItsNumber = (as′ : List Ask) (t : State) → After as′ t → (s : List ℕ) (P : Program) → Image s P → (p : ℕ) (buffer : List ℕ) (k : ℕ)
+    → (readOf t s p buffer ≡ refusal k) ↔ Why (tells as′) P p (length buffer) k
+
+-- 5. the live list is the one that is told
+abbrev pub CodeListsAsTold : Type 0
+CodeListsAsTold = (as′ : List Ask) (t : State) → After as′ t → (l f a o : List ℕ) → length (tells as′ .given) ≤ room l f a o
+    → call (callList l f a o) t .reply ≡ lists (toldList (tells as′))
+
+-- A pointer made in a call is refused in every later state after that call has returned: p is given for a place of the frame f, f has ended some asks later,
+-- and after any more asks every host read and write through p is 27.
+abbrev pub CodeRefusesEverAfter : Type 0
+CodeRefusesEverAfter = (as′ bs′ cs′ : List Ask) (t : State) → After ((as′ ++ bs′) ++ cs′) t → (p f j o : ℕ) → StandsFor (tells as′) p (ofPlace f j o) → Ended (tells (as′ ++ bs′)) f
+    → ((s : List ℕ) (P : Program) → Image s P → (buffer : List ℕ) → readOf t s p buffer ≡ refusal frameGone)
+    × ((bs : List ℕ) → Bytewise bs → call (callWrite p bs) t .reply ≡ refusal frameGone)
