@@ -46,7 +46,7 @@ use Rattle.eval.specs.Entry.{Entering, steppedFrom, staying}
 use Rattle.eval.specs.Start.{isValue, valueAt, wantedOf, startRefusal, startLoaded, startEntered}
 use Rattle.eval.specs.declared.entry.Entered.the-variants as entered
 use Rattle.agree.specs.Seen.{Bytewise, seen}
-use Rattle.agree.specs.Turns.{enteredState, enteredTurn}
+use Rattle.agree.specs.Turns.{enteredReply, enteredState, enteredTurn}
 use Rattle.agree.proofs.Steady.{tables-sound, runs}
 use Rattle.agree.proofs.Step.{FollowsItems}
 use Rattle.agree.proofs.Loaded.{loaded-follows}
@@ -159,6 +159,14 @@ start-bytes-kept : (t : State) → Bytewise (t .memory .store) → {w : Code.Ste
 start-bytes-kept t bytes (start-refused n) = bytes
 start-bytes-kept t bytes (start-went after vs st v r l f) = f bytes
 
+-- a refusal leaves every table as it stood
+abbrev Stays : State → Entering → Type 0
+Stays t x = (k : ℕ) → enteredReply (x .answer) ≡ refusal k → enteredState (t .memory .registers) x ≡ t
+
+start-stays : (t : State) {w : Code.Stepped} {b : Answer (Machine Memory)} → StartAgrees (t .memory) (t .variables) w b → Stays t (steppedFrom w)
+start-stays t (start-refused n) k e = refl
+start-stays t (start-went after vs st v r l f) k e = absurd (let z : _≡_ {A = ℕ} 0 1 = cc in omega arith)
+
 module _ (t : State) (so : soundOf t ≡ true) (bytes : Bytewise (t .memory .store)) (s : List ℕ) (whole : Bytewise s) (P : Program) (e : ℕ) (h : loaded s ≡ took P e)
     (n : ℕ) (context : Value) (gs : List Value) (fine : T (given context)) (all-fine : T (all given gs)) where
   abbrev m : Registers
@@ -180,19 +188,21 @@ module _ (t : State) (so : soundOf t ≡ true) (bytes : Bytewise (t .memory .sto
   abbrev asked-start : Answer (Machine Memory)
   asked-start = start believed P n context gs (seen t)
 
-  -- the same turn, and after it a sound state whose store is made of bytes
+  -- the same turn, and after it a sound state whose store is made of bytes, the one before it where it is refused
   abbrev Goal : Type 0
-  Goal = (enteredTurn m (answerBy number) ≡ changes (seen t) done asked-start) × (soundOf (enteredState m (answerBy number)) ≡ true) × Bytewise (answerBy number .store)
+  Goal = (enteredTurn m (answerBy number) ≡ changes (seen t) done asked-start) × (soundOf (enteredState m (answerBy number)) ≡ true) × Bytewise (answerBy number .store) × Stays t (answerBy number)
 
   refused-by : (k : ℕ) → (k ≡ 0 → ⊥) → number ≡ k → asked-start ≡ refused k → Goal
   unfolding changes
   refused-by k z e d =
       let there : enteredTurn m (answerBy k) ≡ turn (refusal k) (seen t) = rw (ne-eqb k 0 z) refl in
       let kept : soundOf (enteredState m (answerBy k)) ≡ true = rw (ne-eqb k 0 z) so in
-      let same-bytes : Bytewise (answerBy k .store) = rw (ne-eqb k 0 z) bytes in (
+      let same-bytes : Bytewise (answerBy k .store) = rw (ne-eqb k 0 z) bytes in
+      let stays : Stays t (answerBy k) = rw (ne-eqb k 0 z) (λ j d. refl) in (
         ap (λ j. enteredTurn m (answerBy j)) e ∙ there ∙ sym (ap (changes (seen t) done) d),
         ap (λ j. soundOf (enteredState m (answerBy j))) e ∙ kept,
         subst (λ j. Bytewise (answerBy j .store)) (sym e) same-bytes,
+        subst (λ j. Stays t (answerBy j)) (sym e) stays,
       )
 
   sound-all : Sound (t .memory) × Variables (t .variables)
@@ -272,6 +282,7 @@ module _ (t : State) (so : soundOf t ≡ true) (bytes : Bytewise (t .memory .sto
                   ∙ ap (λ (b : Bool). changes (seen t) done (start believed P n context gs (record { memory = view (t .memory); running = b; place = m .next; vars = variablesIn (t .variables) }))) (sym idle),
               ap (λ j. soundOf (enteredState m (answerBy j))) zero-number ∙ start-sound t so bytes a,
               subst (λ j. Bytewise (answerBy j .store)) (sym zero-number) (start-bytes-kept t bytes a),
+              subst (λ j. Stays t (answerBy j)) (sym zero-number) (start-stays t a),
             )
 
   joined : Goal
@@ -294,3 +305,7 @@ module _ (t : State) (so : soundOf t ≡ true) (bytes : Bytewise (t .memory .sto
   pub start-bytes : Bytewise (startEntered s n lent (tagsOf gs) (bitsOf gs) t .store)
   unfolding startEntered startLoaded
   start-bytes = rw (loaded-end s P e h, so) (joined .2)
+
+  pub start-untouched : Stays t (startEntered s n lent (tagsOf gs) (bitsOf gs) t)
+  unfolding startEntered startLoaded
+  start-untouched = rw (loaded-end s P e h, so) (joined .3)

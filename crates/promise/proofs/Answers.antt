@@ -1,6 +1,6 @@
 -- Each entry answers as the believed machine does and leaves a good state: the same turn, sound tables, and a store made of bytes.
 use Prim.Native.Nat.{ℕ}
-use mathlib.Core.Path.{_≡_, refl, sym, ap, _∙_, subst}
+use mathlib.Core.Path.{_≡_, sym, ap, _∙_, subst}
 use mathlib.Core.List.{List, _∷_}
 use lib.ListN.{length, replicate}
 use lib.Dec.{T}
@@ -22,7 +22,7 @@ use Rattle.agree.specs.Turns.{enteredReply, enteredState}
 use Rattle.agree.proofs.Entries.{step-enters, step-kept, step-bytes, run-enters, run-kept, run-bytes}
 use Rattle.agree.proofs.Host.{allocate-enters, allocate-kept, allocate-bytes, write-enters, write-kept, write-bytes, read-enters, list-enters}
 use Rattle.agree.proofs.Start.{start-enters, start-kept, start-bytes}
-use Rattle.promise.specs.Calls.{callAllocate, callWrite, callRead, callStart, callStep, callRun, callList, Good, room, tagsOf, bitsOf, noScalar, Asks, allocating, writing, reading, starting, misgiven, stepping, running, listing}
+use Rattle.promise.specs.Calls.{callAllocate, callWrite, callRead, callStart, callStep, callRun, callList, Good, room, tagsOf, bitsOf, noScalar, allocating, writing, reading, starting, misgiven, stepping, running, listing}
 use Rattle.promise.specs.Promised.{Answers, EntriesAnswer}
 use Rattle.promise.proofs.Lent.{spare-unused, no-values, equal-lengths, bad-length, bad-values, bad-given}
 

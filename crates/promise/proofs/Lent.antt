@@ -1,13 +1,12 @@
 -- The tags and bits of a start: spare bits are not looked at, and all that are no values are refused alike, by 15 in its place.
-use Prim.Native.Nat.{ℕ, zero, suc, _+_, _≤_, _<_}
+use Prim.Native.Nat.{ℕ, zero, suc, _<_}
 use native.Mathlib.Omega.{arith}
 use mathlib.Core.Bool.{Bool, true, false, not, _&&_}
 use mathlib.Core.Path.{_≡_, refl, sym, ap, ap₂, _∙_}
 use mathlib.Core.List.{List, [], _∷_, _++_}
-use lib.ListN.{length, getD, replicate, length-append, length-map, length-replicate, List·getD-append}
-use lib.Dec.{T, ltb, leb, eqb}
+use lib.ListN.{length, replicate, length-append, length-map, length-replicate, List·getD-append}
+use lib.Dec.{T, leb, eqb}
 use borrow.Author.Tests.{lt-ltb}
-use mir.Facts.{yes-and}
 use Rattle.value.specs.Answer.{pick}
 use Rattle.value.specs.Refusal as Refusal
 use Rattle.value.specs.Value.{Value, char, tag, isScalar}
@@ -19,7 +18,7 @@ use Rattle.loader.specs.Tables.{loadedFrom}
 use Rattle.memory.specs.declared.Registers.{Registers}
 use Rattle.memory.specs.declared.Place.{Place}
 use Rattle.memory.specs.declared.Place.the-variants as place
-use Rattle.memory.specs.Tables.{Tables, State, every, soundOf}
+use Rattle.memory.specs.Tables.{State, every, soundOf}
 use Rattle.machine.specs.Sound.{all}
 use Rattle.machine.specs.Accepted.{given}
 use Rattle.instruction.specs.Variables.{found, setVariable}
@@ -32,7 +31,7 @@ use Rattle.calls.specs.Variables.{slotsPointed}
 use Rattle.calls.specs.Code.{slotsMadeOf, unchanged}
 use Rattle.calls.specs.Begin.{valuesSet, flaggedSet, startedSet, variablesSet, withSlots, begunIn, begunAt, begunOf}
 use Rattle.calls.specs.declared.fields.Callee.{Callee}
-use Rattle.eval.specs.Items.{Items, itemsOf}
+use Rattle.eval.specs.Items.{itemsOf}
 use Rattle.eval.specs.Entry.{Entering, steppedFrom, staying}
 use Rattle.eval.specs.Start.{isValue, valueAt, wantedOf, startRefusal, startLoaded, startAfter, startEntered}
 use Rattle.eval.specs.declared.entry.Entered.the-variants as entered

@@ -1,5 +1,6 @@
 pub mod Refused
 pub mod Lent
+pub mod Untouched
 pub mod Answers
 pub mod Sequence
 pub mod Told

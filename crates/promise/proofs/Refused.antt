@@ -1,20 +1,17 @@
 -- An image that is refused is answered before all else, and then a state that is not sound: both leave every table as it stood.
 use Prim.Native.Nat.{ℕ}
 use native.Mathlib.Omega.{arith}
-use mathlib.Core.Bool.{false}
-use mathlib.Core.Path.{_≡_, refl, ap, ap₂}
+use mathlib.Core.Path.{_≡_, refl, ap₂}
 use mathlib.Core.List.{List}
 use Rattle.image.specs.Parse.{Got, took, refused, andThen}
-use Rattle.image.specs.Program.{Program}
 use Rattle.image.specs.Image.{Image, image, programOf, loaded}
-use Rattle.image.specs.declared.field.Step.{Step}
-use Rattle.image.specs.declared.field.Step.the-variants.{At, Stop}
+use Rattle.image.specs.declared.field.Step.the-variants.{Stop}
 use Rattle.loader.specs.Tables.{loadedOf, loadedFrom}
 use Rattle.eval.specs.Host.{hostAllocated, hostWritten, hostListed}
 use Rattle.eval.specs.Entry.{readLoaded, readEntered, stepLoaded, stepEntered, runLoaded, runEntered}
 use Rattle.eval.specs.Start.{startLoaded, startEntered}
 use Rattle.agree.proofs.Entries.{loaded-end}
-use Rattle.promise.specs.Calls.{Call, call, Asks, allocating, writing, reading, starting, misgiven, stepping, running, listing, Refuses, refuses-read, refuses-start, refuses-step, refuses-run}
+use Rattle.promise.specs.Calls.{allocating, writing, reading, starting, misgiven, stepping, running, listing, refuses-read, refuses-start, refuses-step, refuses-run}
 use Rattle.promise.specs.Promised.{ImagesRefused, UnsoundRefused}
 
 -- an image that is refused is read to there

@@ -4,7 +4,7 @@ use native.Mathlib.Omega.{arith}
 use mathlib.Core.Bool.{Bool, true, false}
 use mathlib.Core.Path.{_≡_, refl, sym, ap, ap₂, _∙_, subst, fun-ext}
 use mathlib.Core.Option.{Option}
-use mathlib.Core.List.{List, [], _∷_}
+use mathlib.Core.List.{List, _∷_}
 use lib.ListN.{length, getD, replicate}
 use lib.Dec.{T}
 use mir.Facts.{yes-and}
@@ -19,14 +19,15 @@ use Rattle.machine.specs.Machine as M
 use Rattle.machine.specs.Believed.{believed}
 use Rattle.machine.specs.Sound.{all}
 use Rattle.machine.specs.Accepted.{accepted, acceptedAsk}
-use Rattle.machine.specs.Demand.{Accepted, stateAfter}
+use Rattle.machine.specs.Demand.{Accepted}
 use Rattle.machine.specs.Asks.{Ask, Reply, Turn}
-use Rattle.machine.specs.Entries.{enter, answers, onwards}
+use Rattle.machine.specs.Entries.{answers, onwards}
+use Rattle.machine.proofs.Demand.{replies-are-told}
 use Rattle.decode.proofs.Accepted.{loaded-accepted}
 use Rattle.agree.specs.Seen.{seen, Bytewise}
 use Rattle.agree.proofs.Bytes.{are-bytes}
 use Rattle.promise.specs.Calls.{Call, call, Heard, Good, Asks, allocating, writing, reading, starting, misgiven, stepping, running, listing, AllAsk, no-more, and-then, Tells, asked, passed, heardBy, leftBy}
-use Rattle.promise.specs.Promised.{RepliesAreAnswers, Follows, StatesFollow, Begun, begun, After, FreshFollows}
+use Rattle.promise.specs.Promised.{RepliesAreAnswers, StatesFollow, Begun, begun, FreshFollows, CodeRepliesAreTold}
 use Rattle.promise.proofs.Refused.{images-refused}
 use Rattle.promise.proofs.Lent.{bad-given}
 use Rattle.promise.proofs.Answers.{entries-answer}
@@ -63,7 +64,7 @@ machine-same : {m : Memory} {vs : ℕ → Option Value} → m ≡ M.fresh believ
 unfolding M.fresh
 machine-same e d = ap₂ (λ (m : Memory) (vs : ℕ → Option Value). record { memory = m; running = false; place = 0; vars = vs }) e d
 
-fresh-begun : (u : State) → Begun u → (seen u ≡ M.fresh believed) × Good u
+pub fresh-begun : (u : State) → Begun u → (seen u ≡ M.fresh believed) × Good u
 unfolding M.fresh
 fresh-begun u (begun s f b p v ls lf lb lp lv) =
     let w = fresh-view s f b p v ls lf lb lp lv in
@@ -98,3 +99,13 @@ unfolding all
 tells-accepted cs as′ Tells.no-more = tt
 tells-accepted cs as′ (asked {c} {a} {cs = rest} {as′ = more} q w) = yes-and (acceptedAsk a) (all acceptedAsk more) (asks-accepted c a q) (tells-accepted rest more w)
 tells-accepted cs as′ (passed {cs = rest} q w) = tells-accepted rest as′ w
+
+all-accepted : (cs : List Call) (as′ : List Ask) → AllAsk cs as′ → Accepted as′
+unfolding all
+all-accepted cs as′ AllAsk.no-more = tt
+all-accepted cs as′ (and-then {c} {a} {cs = rest} {as′ = more} q w) = yes-and (acceptedAsk a) (all acceptedAsk more) (asks-accepted c a q) (all-accepted rest more w)
+
+pub code-replies-are-told : CodeRepliesAreTold
+code-replies-are-told t fresh cs as′ w =
+    let g = fresh-begun t fresh in
+    replies-are-answers cs as′ w t (g .1) ∙ ap (answers as′) (g .0) ∙ replies-are-told as′ (all-accepted cs as′ w)

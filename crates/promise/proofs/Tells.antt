@@ -1,12 +1,11 @@
 -- Whatever is called asks something, or its image is refused: an image is taken or refused, and the tags and bits of a start are values or not.
-use Prim.Native.Nat.{ℕ, zero, suc, _<_}
+use Prim.Native.Nat.{ℕ, suc, _<_}
 use native.Mathlib.Omega.{arith}
 use mathlib.Core.Bool.{Bool, true, false, _&&_, _||_}
-use mathlib.Core.Logic.{_⊎_, inl, inr}
 use mathlib.Core.Path.{_≡_, refl, sym, ap, ap₂, _∙_, subst, subst₂}
 use mathlib.Core.Option.{Option, none, some}
 use mathlib.Core.List.{List, [], _∷_, _++_}
-use lib.ListN.{length, getD, replicate}
+use lib.ListN.{length, getD}
 use lib.Dec.{T, ltb, leb·suc-suc}
 use mir.Facts.{yes-and}
 use Rattle.value.specs.Value.{Value, value, Kind, char, tag, same}
@@ -16,8 +15,7 @@ use Rattle.image.specs.Parse.{Got, took}
 use Rattle.image.specs.Parse as Parse
 use Rattle.image.specs.Program.{Program}
 use Rattle.image.specs.Image.{loaded}
-use Rattle.memory.specs.Tables.{every}
-use Rattle.memory.proofs.Every.{by-test, every-at, every-all}
+use Rattle.memory.proofs.Every.{by-test, every-at}
 use Rattle.memory.proofs.Laws.{no, both-true}
 use Rattle.machine.specs.Sound.{all}
 use Rattle.machine.specs.Accepted.{given}
@@ -26,8 +24,8 @@ use Rattle.instruction.specs.Variables.{found}
 use Rattle.instruction.specs.declared.variables.Found.{Found}
 use Rattle.eval.specs.Start.{ofKind, isValue, valueAt}
 use Rattle.agree.specs.Seen.{Bytewise}
-use Rattle.promise.specs.Calls.{Call, callAllocate, callWrite, callRead, callStart, callStep, callRun, callList, Lent, AllLent, tagsOf, bitsOf, areValues, Asks, allocating, writing, reading, starting, misgiven, stepping, running, listing, Refuses, refuses-read, refuses-start, refuses-step, refuses-run, Tells, asked, passed}
-use Rattle.promise.specs.Promised.{CallsTell}
+use Rattle.promise.specs.Calls.{Call, callAllocate, callWrite, callRead, callStart, callStep, callRun, callList, Lent, tagsOf, bitsOf, areValues, Asks, allocating, writing, reading, starting, misgiven, stepping, running, listing, Refuses, refuses-read, refuses-start, refuses-step, refuses-run, Tells, asked, passed}
+use Rattle.promise.specs.Promised.{CallsTell, AnyCalls}
 
 -- ---- values from tags and bits
 
@@ -142,3 +140,6 @@ calls-tell (c ∷ cs) (l, ls) = go (told c l) (calls-tell cs ls)
     go : Told c → ((as′ : List Ask) × Tells cs as′) → (as′ : List Ask) × Tells (c ∷ cs) as′
     go (asks a q) (as′, w) = (a ∷ as′, asked q w)
     go (refuses n q) (as′, w) = (as′, passed q w)
+
+pub any-calls : AnyCalls
+any-calls t fresh cs l = let (as′, w) = calls-tell cs l in (as′, record { first = t; fresh = fresh; calls = cs; tell = w; left = refl })

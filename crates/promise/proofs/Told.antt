@@ -1,25 +1,27 @@
 -- Demand 3 of the code: what a host holds after any calls on fresh tables is seen as the believed machine after the asks, so each of its theorems is one of the code.
-use Prim.Native.Nat.{ℕ, _≤_}
+use Prim.Native.Nat.{ℕ}
+use native.Mathlib.Omega.{arith}
 use mathlib.Core.Path.{_≡_, refl, sym, ap, _∙_, subst}
 use mathlib.Core.List.{List, _++_}
-use mathlib.Core.Bool.{Bool, true, false}
 use lib.ListN.{length}
-use lib.Dec.{T}
-use Rattle.value.specs.Answer.{Answer, refused, _>>=_}
+use Rattle.value.specs.Answer.{Answer, ok, refused, _>>=_}
 use Rattle.value.specs.Refusal.{frameGone}
 use Rattle.image.specs.Program.{Program}
-use Rattle.memory.specs.Memory.{Memory, writeBytes}
+use Rattle.memory.specs.Memory.{Memory, readBytes, writeBytes}
 use Rattle.memory.specs.Tables.{State}
-use Rattle.machine.specs.Machine.{hostWrite}
+use Rattle.machine.specs.Machine.{Machine, withMemory, hostRead, hostWrite}
 use Rattle.machine.specs.Believed.{believed}
 use Rattle.machine.specs.Sound.{sound}
-use Rattle.machine.specs.Asks.{Ask, Reply, toRead, toWrite, toList, refusal, changes, ask, Turn}
+use Rattle.machine.specs.Asks.{Ask, toRead, toWrite, toList, done, refusal, changes, shows, ask, Turn}
 use Rattle.machine.specs.Entries.{enter}
-use Rattle.machine.specs.Demand.{Accepted, tells, stateAfter, reply}
-use Rattle.machine.proofs.Demand.{always-sound, granted-exactly-when-right, bytes-are-last-stored, refused-with-its-number, listing-is-told, refused-ever-after}
-use Rattle.agree.specs.Seen.{Bytewise, seen}
-use Rattle.promise.specs.Calls.{Call, callRead, callWrite, callList, call, Asks, reading, writing, listing, room}
-use Rattle.promise.specs.Promised.{After, Image, readOf, CodeGrantsExactlyWhenRight, CodeReadsLastStored, CodeRefusesWithItsNumber, CodeListsAsTold, CodeRefusesEverAfter}
+use Rattle.machine.specs.Demand.{Accepted, stateAfter, reply}
+use Rattle.machine.proofs.Demand.{always-sound, granted-exactly-when-right, bytes-are-last-stored, bytes-of-constants, refused-with-its-number, gone-exactly-when-ended, writes-stay-apart, listing-is-told, refused-ever-after}
+use Rattle.memory.proofs.Bytes.{extents-apart}
+use Rattle.agree.specs.Seen.{seen}
+use Rattle.agree.proofs.Steady.{tables-sound}
+use Rattle.agree.proofs.Entries.{is-true, asked}
+use Rattle.promise.specs.Calls.{Call, callRead, callWrite, callList, call, shown, Good, Asks, reading, writing, listing, room}
+use Rattle.promise.specs.Promised.{After, Image, readOf, CodeGrantsExactlyWhenRight, CodeReadsLastStored, CodeReadsConstants, CodeRefusesWithItsNumber, CodeGoneExactlyWhenEnded, CodeExtentsApart, CodeWritesStayApart, CodeListsAsTold, CodeRefusesEverAfter}
 use Rattle.promise.proofs.Answers.{entries-answer}
 use Rattle.promise.proofs.Sequence.{fresh-follows, tells-accepted}
 
@@ -44,9 +46,60 @@ pub code-reads-last-stored : CodeReadsLastStored
 code-reads-last-stored as′ t after s P i p buffer f j o bs at e =
     bytes-are-last-stored as′ (accepted as′ t after) P p (length buffer) f j o bs at (sym (read-same as′ t after s P i p buffer) ∙ e)
 
+pub code-reads-constants : CodeReadsConstants
+code-reads-constants as′ t after s P i p buffer k bs at e =
+    bytes-of-constants as′ (accepted as′ t after) P p (length buffer) k bs at (sym (read-same as′ t after s P i p buffer) ∙ e)
+
 pub code-refuses-with-its-number : CodeRefusesWithItsNumber
 code-refuses-with-its-number as′ t after s P i p buffer k =
     rw (read-same as′ t after s P i p buffer) (refused-with-its-number as′ (accepted as′ t after) P p (length buffer) k)
+
+pub code-gone-exactly-when-ended : CodeGoneExactlyWhenEnded
+code-gone-exactly-when-ended as′ t after s P i p buffer =
+    rw (read-same as′ t after s P i p buffer) (gone-exactly-when-ended as′ (accepted as′ t after) P p (length buffer))
+
+pub code-extents-apart : CodeExtentsApart
+code-extents-apart as′ t after j k lj lk ne = extents-apart (t .memory) (tables-sound t (fresh-follows as′ t after .1 .sound) .0) j k lj lk ne
+
+-- a write that is done is the memory's own
+write-done : (S : Machine Memory) (p : ℕ) (bs : List ℕ) → ask believed (toWrite p bs) S .reply ≡ done
+    → (m : Memory) × (writeBytes (S .memory) p bs ≡ ok m) × (ask believed (toWrite p bs) S .machine .memory ≡ m)
+unfolding ask hostWrite changes _>>=_
+write-done S p bs e = go (writeBytes (S .memory) p bs) refl e
+  where
+    go : (x : Answer Memory) → writeBytes (S .memory) p bs ≡ x → changes S done (x >>= λ m. ok (withMemory believed S m)) .reply ≡ done
+        → (m : Memory) × (writeBytes (S .memory) p bs ≡ ok m) × (changes S done (x >>= λ m. ok (withMemory believed S m)) .machine .memory ≡ m)
+    go (ok m) h e = (m, h, refl)
+    go (refused k) h e = absurd (let z : _≡_ {A = ℕ} 0 1 = cc in omega arith)
+
+-- a read's reply is by the bytes that the memory reads
+read-by : (S S′ : Machine Memory) (P : Program) (q n : ℕ) → readBytes (P .constants) (S .memory) q n ≡ readBytes (P .constants) (S′ .memory) q n
+    → ask believed (toRead P q n) S .reply ≡ ask believed (toRead P q n) S′ .reply
+unfolding ask hostRead shows
+read-by S S′ P q n e = ap (λ (x : Answer (List ℕ)). shows S x .reply) e ∙ alike (readBytes (P .constants) (S′ .memory) q n)
+  where
+    alike : (x : Answer (List ℕ)) → shows S x .reply ≡ shows S′ x .reply
+    alike (ok bs) = refl
+    alike (refused k) = refl
+
+-- on a good state 10 is not given
+ask-same : (c : Call) (a : Ask) → Asks c a → (u : State) → Good u → shown (call c u) ≡ ask believed a (seen u)
+ask-same c a x u g = entries-answer c a x u g .same ∙ asked u (g .sound) (g .bytes) a
+
+pub code-writes-stay-apart : CodeWritesStayApart
+code-writes-stay-apart as′ t after p q f j o f′ j′ o′ bs b e at-p at-q apart s P i buffer =
+    let n = length buffer in
+    let constants = P .constants in
+    let (same, good) = fresh-follows as′ t after in
+    let left : State = call (callWrite p bs) t .left in
+    let w : shown (call (callWrite p bs) t) ≡ ask believed (toWrite p bs) (seen t) = ask-same (callWrite p bs) (toWrite p bs) (writing b) t good in
+    let (m, wrote, is) = write-done (seen t) p bs (sym (ap (λ (x : Turn Memory). x .reply) w) ∙ e) in
+    let stays = writes-stay-apart as′ (accepted as′ t after) p q f j o f′ j′ o′ bs m (subst (λ (z : Machine Memory). writeBytes (z .memory) p bs ≡ ok m) same wrote) at-p at-q apart constants n in
+    let reads : readBytes constants (seen left .memory) q n ≡ readBytes constants (seen t .memory) q n =
+    ap (λ (z : Memory). readBytes constants z q n) (ap (λ (x : Turn Memory). x .machine .memory) w ∙ is) ∙ stays ∙ ap (λ (z : Machine Memory). readBytes constants (z .memory) q n) (sym same) in
+    let reads-as : (u : State) → Good u → readOf u s q buffer ≡ ask believed (toRead P q n) (seen u) .reply =
+    λ u g. ap (λ (x : Turn Memory). x .reply) (ask-same (callRead s q buffer) (toRead P q n) (reading (i .bytes) (i .taken)) u g) in
+    reads-as left (entries-answer (callWrite p bs) (toWrite p bs) (writing b) t good .good) ∙ read-by (seen left) (seen t) P q n reads ∙ sym (reads-as t good)
 
 pub code-lists-as-told : CodeListsAsTold
 code-lists-as-told as′ t after l f a o fits =
@@ -56,10 +109,6 @@ code-lists-as-told as′ t after l f a o fits =
 write-refused : (as′ : List Ask) → Accepted as′ → (p k : ℕ) (bs : List ℕ) → writeBytes (stateAfter as′ .memory) p bs ≡ refused k → enter (toWrite p bs) (stateAfter as′) .reply ≡ refusal k
 unfolding enter ask hostWrite changes _>>=_
 write-refused as′ h p k bs e = rw (is-true (sound (stateAfter as′)) (always-sound as′ h), e) refl
-  where
-    is-true : (b : Bool) → T b → b ≡ true
-    is-true true y = refl
-    is-true false y = absurd y
 
 pub code-refuses-ever-after : CodeRefusesEverAfter
 code-refuses-ever-after as′ bs′ cs′ t after p f j o at end =

@@ -79,7 +79,7 @@ bitsOf gs = map (λ g. g .bits) gs
 abbrev pub noScalar : Value
 noScalar = value char 0xd800
 
--- a tag and bits of a value, and of each argument
+-- the context's tag and bits are a value's, and so are each argument's
 abbrev pub areValues : (context : Found) → (tags bits : List ℕ) → Bool
 areValues context ts bs = isValue (context .tag) (context .bits) && every (length ts) (valueAt ts bs)
 
@@ -104,7 +104,7 @@ pub data Refuses : Call → (number : ℕ) → Type 0 where
   refuses-step : {s : List ℕ} {n q : ℕ} → loaded s ≡ Parse.refused n q → Refuses (callStep s) n
   refuses-run : {s : List ℕ} {n q budget : ℕ} → loaded s ≡ Parse.refused n q → Refuses (callRun s budget) n
 
--- what is lent as bytes is bytes
+-- what is lent as bytes is bytes, as the code's types say
 abbrev pub Lent : Call → Type 0
 Lent (callAllocate n) = Unit
 Lent (callWrite p bs) = Bytewise bs

@@ -1,19 +1,23 @@
 -- What is promised of the compiled entries: seen through their tables they are the believed machine's, whoever calls them and in whatever order.
 use Prim.Native.Nat.{ℕ, _+_, _≤_, _<_}
 use mathlib.Core.Bool.{false}
-use mathlib.Core.Logic.{_↔_}
+use mathlib.Core.Logic.{_≢_, _⊎_, _↔_}
 use mathlib.Core.Path.{_≡_}
-use mathlib.Core.List.{List, _++_}
-use lib.ListN.{length, getD}
+use mathlib.Core.List.{List, [], _++_}
+use lib.ListN.{length, getD, take}
 use Rattle.value.specs.Refusal.{notSound, frameGone}
 use Rattle.image.specs.Parse.{took}
 use Rattle.image.specs.Program.{Program}
 use Rattle.image.specs.Image.{loaded}
-use Rattle.memory.specs.Tables.{State, state, tables, registers, freshOf, soundOf}
-use Rattle.machine.specs.Asks.{Ask, Reply, bytes, lists, refusal}
+use Rattle.memory.specs.Tables.{State, state, tables, registers, columns, live, bound, freshOf, soundOf}
+use Rattle.machine.specs.Asks.{Ask, Reply, done, bytes, lists, refusal, replies}
+use Rattle.machine.specs.Machine as Machine
+use Rattle.machine.specs.Recalled.{recalled}
 use Rattle.machine.specs.Entries.{enter, answers, onwards}
-use Rattle.machine.specs.History.{ofPlace, madeAt, StandsFor, Ended, toldList}
+use Rattle.machine.specs.History.{ofConstant, ofPlace, madeAt, StandsFor, Ended, toldList}
 use Rattle.machine.specs.Demand.{tells, stateAfter, Right, Why}
+use Rattle.eval.specs.Host.{hostListed}
+use Rattle.eval.specs.Entry.{readEntered}
 use Rattle.agree.specs.Seen.{seen, Bytewise}
 use Rattle.promise.specs.Calls.{Call, callRead, callWrite, callList, call, heard, shown, Good, room, Asks, Refuses, AllLent, AllAsk, Tells, heardBy, leftBy}
 
@@ -35,15 +39,22 @@ ImagesRefused = (c : Call) (n : ℕ) → Refuses c n → (t : State) → call c 
 abbrev pub UnsoundRefused : Type 0
 UnsoundRefused = (c : Call) (a : Ask) → Asks c a → (t : State) → soundOf t ≡ false → call c t ≡ heard (refusal notSound) t
 
+-- "A refusal leaves state and lent buffers untouched": each element of each table, stale ones too
+abbrev pub RefusalsChangeNothing : Type 0
+RefusalsChangeNothing = (c : Call) (a : Ask) → Asks c a → (t : State) → Good t → (n : ℕ) → call c t .reply ≡ refusal n → call c t .left ≡ t
+
+-- the buffer of a read, and the slices of the list, on any state
+abbrev pub BuffersStay : Type 0
+BuffersStay = (s : List ℕ) (p : ℕ) (buffer : List ℕ) (t : State) (n : ℕ) → call (callRead s p buffer) t .reply ≡ refusal n → readEntered s p buffer t .bytes ≡ buffer
+
+abbrev pub SlicesStay : Type 0
+SlicesStay = (l f a o : List ℕ) (t : State) (n : ℕ) → call (callList l f a o) t .reply ≡ refusal n → hostListed t l f a o .slices ≡ columns l f a o
+
 -- ---- any calls, in any order
 
 -- the replies are the machine's
 abbrev pub RepliesAreAnswers : Type 0
 RepliesAreAnswers = (cs : List Call) (as′ : List Ask) → AllAsk cs as′ → (t : State) → Good t → heardBy cs t ≡ answers as′ (seen t)
-
--- whatever is called, it asks or its image is refused
-abbrev pub CallsTell : Type 0
-CallsTell = (cs : List Call) → AllLent cs → (as′ : List Ask) × Tells cs as′
 
 -- and so is the state that is left, also where images were refused in between
 pub record Follows (cs : List Call) (as′ : List Ask) (t : State) : Type 0 where
@@ -52,6 +63,10 @@ pub record Follows (cs : List Call) (as′ : List Ask) (t : State) : Type 0 wher
 
 abbrev pub StatesFollow : Type 0
 StatesFollow = (cs : List Call) (as′ : List Ask) → Tells cs as′ → (t : State) → Good t → Follows cs as′ t
+
+-- whatever is called, it asks something or its image is refused
+abbrev pub CallsTell : Type 0
+CallsTell = (cs : List Call) → AllLent cs → (as′ : List Ask) × Tells cs as′
 
 -- ---- tables that began as fresh
 
@@ -68,9 +83,17 @@ pub record After (as′ : List Ask) (t : State) : Type 0 where
   pub tell : Tells calls as′
   pub left : leftBy calls first ≡ t
 
+-- any calls on fresh tables are such
+abbrev pub AnyCalls : Type 0
+AnyCalls = (t : State) → Begun t → (cs : List Call) → AllLent cs → (as′ : List Ask) × After as′ (leftBy cs t)
+
 -- the believed machine after them is what the host sees, and the host may go on
 abbrev pub FreshFollows : Type 0
 FreshFollows = (as′ : List Ask) (t : State) → After as′ t → (seen t ≡ stateAfter as′) × Good t
+
+-- every reply is the one that the sequence tells
+abbrev pub CodeRepliesAreTold : Type 0
+CodeRepliesAreTold = (t : State) → Begun t → (cs : List Call) (as′ : List Ask) → AllAsk cs as′ → heardBy cs t ≡ replies recalled as′ (Machine.fresh recalled)
 
 -- ---- demand 3, of the code: `as′` is what was asked so far, `t` the registers and tables that the host holds
 
@@ -94,10 +117,31 @@ CodeReadsLastStored = (as′ : List Ask) (t : State) → After as′ t → (s : 
     → StandsFor (tells as′) p (ofPlace f j o) → readOf t s p buffer ≡ bytes bs
     → (length bs ≡ length buffer) × ((i : ℕ) → i < length buffer → getD bs i 0 ≡ madeAt (tells as′ .made) f j .byte (o + i))
 
+-- of a constant, its first bytes
+abbrev pub CodeReadsConstants : Type 0
+CodeReadsConstants = (as′ : List Ask) (t : State) → After as′ t → (s : List ℕ) (P : Program) → Image s P → (p : ℕ) (buffer : List ℕ) (k : ℕ) (bs : List ℕ)
+    → StandsFor (tells as′) p (ofConstant k) → readOf t s p buffer ≡ bytes bs → bs ≡ take (length buffer) (getD (P .constants) k [])
+
 -- 3. and the others are refused with their number
 abbrev pub CodeRefusesWithItsNumber : Type 0
 CodeRefusesWithItsNumber = (as′ : List Ask) (t : State) → After as′ t → (s : List ℕ) (P : Program) → Image s P → (p : ℕ) (buffer : List ℕ) (k : ℕ)
     → (readOf t s p buffer ≡ refusal k) ↔ Why (tells as′) P p (length buffer) k
+
+-- "27 exactly where the frame has ended"
+abbrev pub CodeGoneExactlyWhenEnded : Type 0
+CodeGoneExactlyWhenEnded = (as′ : List Ask) (t : State) → After as′ t → (s : List ℕ) (P : Program) → Image s P → (p : ℕ) (buffer : List ℕ)
+    → (readOf t s p buffer ≡ refusal frameGone) ↔ ((f : ℕ) × (j : ℕ) × (o : ℕ) × StandsFor (tells as′) p (ofPlace f j o) × Ended (tells as′) f)
+
+-- 4. the extents that the compiled reads and writes use lie apart: of two live allocations one ends before the other begins
+abbrev pub CodeExtentsApart : Type 0
+CodeExtentsApart = (as′ : List Ask) (t : State) → After as′ t → (j k : ℕ) → j < live (t .memory) → k < live (t .memory) → j ≢ k
+    → (bound (t .memory) (j + 1) ≤ bound (t .memory) k) ⊎ (bound (t .memory) (k + 1) ≤ bound (t .memory) j)
+
+-- "an accepted write through one allocation changes no byte that is granted through another"
+abbrev pub CodeWritesStayApart : Type 0
+CodeWritesStayApart = (as′ : List Ask) (t : State) → After as′ t → (p q f j o f′ j′ o′ : ℕ) (bs : List ℕ) → Bytewise bs → call (callWrite p bs) t .reply ≡ done
+    → StandsFor (tells as′) p (ofPlace f j o) → StandsFor (tells as′) q (ofPlace f′ j′ o′) → (f ≢ f′) ⊎ (j ≢ j′)
+    → (s : List ℕ) (P : Program) → Image s P → (buffer : List ℕ) → readOf (call (callWrite p bs) t .left) s q buffer ≡ readOf t s q buffer
 
 -- 5. the live list is the one that is told
 abbrev pub CodeListsAsTold : Type 0
