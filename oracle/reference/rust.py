@@ -18,11 +18,10 @@ STUBS = {"ast": ["ast"], "label": ["label"], "asn": ["asn"], "value": ["value"],
          "runtime": ["runtime/mod"], "lower": ["lir/lower"], "empty": ["lir/print", "lir/test_eval"]}
 
 
-def build(source):
-    """Copies the published files, unchanged by their digests, between the stubs and compiles."""
-    shutil.rmtree(BUILD, ignore_errors=True)
+def copied(source, to):
+    """Copies the published files, unchanged by their digests, between the stubs into a new folder."""
     for folder in ("src/lir", "src/runtime"):
-        os.makedirs(os.path.join(BUILD, folder))
+        os.makedirs(os.path.join(to, folder))
     with open(os.path.join(ORACLE, "judge", "published.sha256"), encoding="ascii") as listed:
         for line in listed:
             digest, name = line.split()
@@ -30,21 +29,31 @@ def build(source):
                 data = published.read()
             if hashlib.sha256(data).hexdigest() != digest:
                 sys.exit(f"{name} is not the published file")
-            with open(os.path.join(BUILD, name), "wb") as copy:
+            with open(os.path.join(to, name), "wb") as copy:
                 copy.write(data)
-    for name in ("main", "probe", "program"):
-        shutil.copy(os.path.join(ORACLE, "judge", name + ".rs"), os.path.join(BUILD, "src"))
     for stub, places in STUBS.items():
         for place in places:
-            shutil.copy(os.path.join(ORACLE, "judge", "stubs", stub + ".rs"), os.path.join(BUILD, "src", place + ".rs"))
-    log = [os.path.join(ORACLE, "judge", "log.rs"), "--crate-type", "proc-macro", "--crate-name", "log", "--out-dir", BUILD]
-    subprocess.run(["rustc", "--edition", "2024", *log], check=True)
-    extern = [name for name in os.listdir(BUILD) if name.startswith("liblog")][0]
-    judge = os.path.join(BUILD, "judge")
-    subprocess.run(["rustc", "--edition", "2024", "--crate-name", "judge", "--cfg", "test", "-C", "opt-level=2",
-                    "-C", "overflow-checks=on", "-C", "debug-assertions=on", "--extern", f"log={os.path.join(BUILD, extern)}",
-                    os.path.join(BUILD, "src", "main.rs"), "-o", judge], check=True)
-    return judge
+            shutil.copy(os.path.join(ORACLE, "judge", "stubs", stub + ".rs"), os.path.join(to, "src", place + ".rs"))
+
+
+def compiled(to, log, options):
+    """The program of src/main.rs, with this file as the crate `log`."""
+    subprocess.run(["rustc", "--edition", "2024", log, "--crate-type", "proc-macro", "--crate-name", "log", "--out-dir", to], check=True)
+    extern = [name for name in os.listdir(to) if name.startswith("liblog")][0]
+    program = os.path.join(to, "judge")
+    subprocess.run(["rustc", "--edition", "2024", "--crate-name", "judge", "--cfg", "test", *options,
+                    "--extern", f"log={os.path.join(to, extern)}", os.path.join(to, "src", "main.rs"), "-o", program], check=True)
+    return program
+
+
+def build(source):
+    """The judge: the published evaluator with overflow checks and debug assertions, and the probe in its `trace!`."""
+    shutil.rmtree(BUILD, ignore_errors=True)
+    copied(source, BUILD)
+    for name in ("main", "probe", "program"):
+        shutil.copy(os.path.join(ORACLE, "judge", name + ".rs"), os.path.join(BUILD, "src"))
+    checks = ["-C", "opt-level=2", "-C", "overflow-checks=on", "-C", "debug-assertions=on"]
+    return compiled(BUILD, os.path.join(ORACLE, "judge", "log.rs"), checks)
 
 
 def answered(judge, made):

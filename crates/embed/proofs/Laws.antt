@@ -1,10 +1,10 @@
--- What was written word by word is what the definitions say, and a call's parts together are what it gives.
+-- A call's parts together are what it gives.
 use Prim.Native.Nat.{ℕ}
 use native.Mathlib.Omega.{arith}
 use mathlib.Core.Bool.{Bool, true, false, _&&_}
-use mathlib.Core.List.{List, [], _∷_}
+use mathlib.Core.List.{List}
 use mathlib.Core.Path.{_≡_, refl, sym, ap, _∙_}
-use lib.ListN.{length, set}
+use lib.ListN.{length}
 use lib.Dec.{eqb}
 use borrow.Author.Tests.{eq-eqb, ne-eqb}
 use Rattle.value.specs.Answer.{pick}
@@ -25,54 +25,9 @@ use Rattle.eval.specs.Host.{hostAllocated, hostWritten, hostListed}
 use Rattle.eval.specs.declared.run.Ran.{Ran}
 use Rattle.eval.specs.declared.entry.Entered.{Entered}
 use Rattle.eval.specs.declared.entry.Readout.{Readout}
-use Rattle.embed.specs.declared.words.Reply.{Reply}
-use Rattle.embed.specs.Words.{registersIn, wordsOf, replyWords, registersPut, replyPut, shapedOf, replyMoved, replyEntered, replyRun, replyGiven, replyRead, replyWritten, numberOf, afterMoved, afterEntered, afterRun, afterGiven}
+use Rattle.replies.specs.declared.words.Reply.{Reply}
+use Rattle.replies.specs.Words.{registersIn, wordsOf, replyWords, registersPut, replyPut, shapedOf, replyMoved, replyEntered, replyRun, replyGiven, replyRead, replyWritten, numberOf, afterMoved, afterEntered, afterRun, afterGiven}
 use Rattle.embed.specs.Called.{Lent, lent, Gave, gave, registersOf, stateOf, ifShaped, giving, freshGave, freshCalled, enteredGave, startCalled, stepCalled, ranGave, runCalled, madeGave, allocateCalled, numbered, writeCalled, Filled, filled, filling, readGave, readCalled, imageCalled, Listed, listed, listGave, listCalled}
-
--- ---- words
-
-pub five-words : (l : List ℕ) (a b c d e : ℕ) → length l ≡ 5 → set (set (set (set (set l 0 a) 1 b) 2 c) 3 d) 4 e ≡ a ∷ b ∷ c ∷ d ∷ e ∷ []
-five-words [] a b c d e h = absurd (omega arith)
-five-words (u ∷ []) a b c d e h = absurd (omega arith)
-five-words (u ∷ v ∷ []) a b c d e h = absurd (omega arith)
-five-words (u ∷ v ∷ w ∷ []) a b c d e h = absurd (omega arith)
-five-words (u ∷ v ∷ w ∷ x ∷ []) a b c d e h = absurd (omega arith)
-five-words (u ∷ v ∷ w ∷ x ∷ y ∷ []) a b c d e h = refl
-five-words (u ∷ v ∷ w ∷ x ∷ y ∷ z ∷ l) a b c d e h = absurd (omega arith)
-
-pub four-words : (l : List ℕ) (a b c d : ℕ) → length l ≡ 4 → set (set (set (set l 0 a) 1 b) 2 c) 3 d ≡ a ∷ b ∷ c ∷ d ∷ []
-four-words [] a b c d h = absurd (omega arith)
-four-words (u ∷ []) a b c d h = absurd (omega arith)
-four-words (u ∷ v ∷ []) a b c d h = absurd (omega arith)
-four-words (u ∷ v ∷ w ∷ []) a b c d h = absurd (omega arith)
-four-words (u ∷ v ∷ w ∷ x ∷ []) a b c d h = refl
-four-words (u ∷ v ∷ w ∷ x ∷ y ∷ l) a b c d h = absurd (omega arith)
-
--- registers that stay as they were are the words that were lent
-pub words-back : (l : List ℕ) → length l ≡ 5 → wordsOf (registersIn l) ≡ l
-words-back [] h = absurd (omega arith)
-words-back (u ∷ []) h = absurd (omega arith)
-words-back (u ∷ v ∷ []) h = absurd (omega arith)
-words-back (u ∷ v ∷ w ∷ []) h = absurd (omega arith)
-words-back (u ∷ v ∷ w ∷ x ∷ []) h = absurd (omega arith)
-words-back (u ∷ v ∷ w ∷ x ∷ y ∷ []) h = refl
-words-back (u ∷ v ∷ w ∷ x ∷ y ∷ z ∷ l) h = absurd (omega arith)
-
-pub registers-put : (m : Registers) (l : List ℕ) → length l ≡ 5 → set (set (set (set (set l 0 (m .running)) 1 (m .next)) 2 (m .counter)) 3 (m .depth)) 4 (m .pointers) ≡ registersPut m l
-unfolding registersPut
-registers-put m l h = five-words l _ _ _ _ _ h ∙ simp (eq-eqb _ _ h)
-
-pub registers-kept : (m : Registers) (l : List ℕ) → (length l ≡ 5 → ⊥) → l ≡ registersPut m l
-unfolding registersPut
-registers-kept m l h = simp (ne-eqb _ _ h)
-
-pub reply-put : (r : Reply) (l : List ℕ) → length l ≡ 4 → set (set (set (set l 0 (r .ended)) 1 (r .tag)) 2 (r .bits)) 3 (r .count) ≡ replyPut r l
-unfolding replyPut
-reply-put r l h = four-words l _ _ _ _ h ∙ simp (eq-eqb _ _ h)
-
-pub reply-kept : (r : Reply) (l : List ℕ) → (length l ≡ 4 → ⊥) → l ≡ replyPut r l
-unfolding replyPut
-reply-kept r l h = simp (ne-eqb _ _ h)
 
 -- ---- lengths
 

@@ -2,21 +2,21 @@
 ghost use mathlib.Core.Path.{_≡_};
 ghost use Rattle.instruction.specs.Variables.{found};
 ghost use Rattle.embed.specs.Called.{lent, gave, freshCalled, startCalled, stepCalled, runCalled};
-use crate::words::after_entered;
-use crate::words::after_moved;
-use crate::words::after_run;
-use crate::words::put_registers;
-use crate::words::put_reply;
-use crate::words::registers_in;
-use crate::words::reply_entered;
-use crate::words::reply_moved;
-use crate::words::reply_run;
-use crate::words::shaped;
 use eval::entry::run;
 use eval::entry::step;
 use eval::start::start;
 use instruction::variables::Found;
 use memory::fresh;
+use replies::words::after_entered;
+use replies::words::after_moved;
+use replies::words::after_run;
+use replies::words::put_registers;
+use replies::words::put_reply;
+use replies::words::registers_in;
+use replies::words::reply_entered;
+use replies::words::reply_moved;
+use replies::words::reply_run;
+use replies::words::shaped;
 use value::refusal::NOT_SOUND;
 
 // Fresh memory in the tables.

@@ -2,22 +2,22 @@
 ghost use mathlib.Core.Path.{_≡_};
 ghost use Rattle.memory.specs.Tables.{both};
 ghost use Rattle.embed.specs.Called.{lent, gave, filled, listed, allocateCalled, writeCalled, readCalled, imageCalled, listCalled};
-use crate::words::ANSWER;
-use crate::words::REGISTERS;
-use crate::words::after_given;
-use crate::words::number_of;
-use crate::words::put_registers;
-use crate::words::put_reply;
-use crate::words::registers_in;
-use crate::words::reply_given;
-use crate::words::reply_read;
-use crate::words::reply_written;
-use crate::words::shaped;
 use eval::entry::host_read;
 use eval::host::host_allocate;
 use eval::host::host_list;
 use eval::host::host_write;
 use image_writer::writer::write_image;
+use replies::words::ANSWER;
+use replies::words::REGISTERS;
+use replies::words::after_given;
+use replies::words::number_of;
+use replies::words::put_registers;
+use replies::words::put_reply;
+use replies::words::registers_in;
+use replies::words::reply_given;
+use replies::words::reply_read;
+use replies::words::reply_written;
+use replies::words::shaped;
 use value::refusal::NOT_SOUND;
 
 // A new allocation in the top frame; its pointer's number is the answer's count.

@@ -8,4 +8,3 @@
 // Each function answers 0, or the number of a refusal. A wrong length of registers or answer is 10, and then nothing is changed.
 pub mod entries;
 pub mod host;
-pub mod words;
