@@ -9,7 +9,7 @@
 
 #include "../include/lir.h"
 
-enum { ROUNDS = 15, LOADS = 200, IMAGE_ROOM = 40000 };
+enum { ROUNDS = 40, LOADS = 200, IMAGE_ROOM = 40000 };
 
 typedef struct {
     uint64_t registers[LIR_REGISTERS], answer[LIR_ANSWER];

@@ -15,7 +15,7 @@ mod value;
 use lir::eval::eval;
 use lir::{IrValue, Memory};
 
-const ROUNDS: usize = 15;
+const ROUNDS: usize = 40;
 
 unsafe extern "C" {
     /// The processor time so far in microseconds, of the C library that Rust's own links.

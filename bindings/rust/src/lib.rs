@@ -80,7 +80,7 @@ pub struct Live {
 }
 
 /// A machine with its tables.
-#[derive(Clone, PartialEq, Eq)]
+#[derive(Clone)]
 pub struct Machine {
     registers: [u64; REGISTERS],
     answer: [u64; ANSWER],
