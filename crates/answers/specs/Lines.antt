@@ -67,3 +67,22 @@ takenLine v c f b i = countsOne v c f ++ labelled (ascii " blocks ") b ++ labell
 -- " L FRAME ALLOCATION OFFSET", after "live COUNT"
 abbrev pub liveRecord : (live frame allocation offset : ℕ) → Pieces
 liveRecord l f a o = labelled (ascii " ") l ++ labelled (ascii " ") f ++ labelled (ascii " ") a ++ labelled (ascii " ") o
+
+-- "ok"
+abbrev pub okLine : Pieces
+okLine = ascii "ok\n" ∷ []
+
+-- "stepped"
+abbrev pub steppedLine : Pieces
+steppedLine = ascii "stepped\n" ∷ []
+
+-- "A refusal is `refused N`"
+abbrev pub refusalLine : (number : ℕ) → Pieces
+refusalLine r = labelled (ascii "refused ") r ++ ending
+
+-- "returned KIND BITS" and "returned none", as a step answers
+abbrev pub valueLine : (tag bits : ℕ) → Pieces
+valueLine t b = returnedValue t b ++ ending
+
+abbrev pub noValueLine : Pieces
+noValueLine = ascii "returned none\n" ∷ []

@@ -6,7 +6,7 @@ use words::number::write_number;
 use words::text::write_bytes;
 ghost use mathlib.Core.Path.{_≡_};
 ghost use Rattle.words.specs.Text.{text, puts};
-ghost use Rattle.answers.specs.Lines.{labelled, returnedValue, returnedLine, returnedNoneLine, pausedLine, refusedLine, imageRefusedLine, cannotReadLine, pointerLine, bytesLine, imageLine, countsOne, takenLine, liveRecord};
+ghost use Rattle.answers.specs.Lines.{labelled, returnedValue, returnedLine, returnedNoneLine, pausedLine, refusedLine, imageRefusedLine, cannotReadLine, pointerLine, bytesLine, imageLine, countsOne, takenLine, liveRecord, okLine, steppedLine, refusalLine, valueLine, noValueLine};
 
 // A label and a number.
 pub fn write_labelled(out: &mut [u8], at: Written, label: &[u8], n: u64) -> Written
@@ -149,4 +149,41 @@ pub fn write_live(
     let b = write_labelled(out, a, b" ", frame);
     let c = write_labelled(out, b, b" ", allocation);
     write_labelled(out, c, b" ", offset)
+}
+
+// `ok`
+pub fn write_ok(out: &mut [u8], at: Written) -> Written
+    ensures { λ r. ⌜ text r (now (out .exit)) ≡ puts okLine (text at (now (out .entry))) ⌝ }
+{
+    write_bytes(out, at, b"ok\n")
+}
+
+// `stepped`
+pub fn write_stepped(out: &mut [u8], at: Written) -> Written
+    ensures { λ r. ⌜ text r (now (out .exit)) ≡ puts steppedLine (text at (now (out .entry))) ⌝ }
+{
+    write_bytes(out, at, b"stepped\n")
+}
+
+// `refused N`
+pub fn write_refusal(out: &mut [u8], at: Written, number: u64) -> Written
+    ensures { λ r. ⌜ text r (now (out .exit)) ≡ puts (refusalLine number) (text at (now (out .entry))) ⌝ }
+{
+    let a = write_labelled(out, at, b"refused ", number);
+    write_bytes(out, a, b"\n")
+}
+
+// `returned KIND BITS`, as a step answers
+pub fn write_value_line(out: &mut [u8], at: Written, tag: u64, bits: u64) -> Written
+    ensures { λ r. ⌜ text r (now (out .exit)) ≡ puts (valueLine tag bits) (text at (now (out .entry))) ⌝ }
+{
+    let a = write_value(out, at, tag, bits);
+    write_bytes(out, a, b"\n")
+}
+
+// `returned none`, as a step answers
+pub fn write_no_value(out: &mut [u8], at: Written) -> Written
+    ensures { λ r. ⌜ text r (now (out .exit)) ≡ puts noValueLine (text at (now (out .entry))) ⌝ }
+{
+    write_bytes(out, at, b"returned none\n")
 }
