@@ -23,12 +23,12 @@ use Rattle.machine.specs.Believed.{believed}
 use Rattle.machine.specs.Entries.{enter}
 use Rattle.instruction.specs.declared.step.Progress.{Progress}
 use Rattle.instruction.specs.declared.step.Progress.the-variants.{Next, Ended, Refused}
-use Rattle.eval.specs.Items.{itemsOf}
+use Rattle.eval.specs.Loaded.{itemsOf}
 use Rattle.eval.specs.Entry.{runLoaded, runEntered, steppedAs, steppedFrom, staying, stepLoaded, stepEntered}
-use Rattle.eval.specs.Run.{resting, ranOf}
-use Rattle.eval.specs.declared.run.Ran.the-variants as ran
+use Rattle.run.specs.Run.{resting, ranOf}
+use Rattle.run.specs.declared.Ran.the-variants as ran
 use Rattle.eval.specs.declared.entry.Entered.the-variants as entered
-use Rattle.eval.specs.Step.{steppedOf}
+use Rattle.step.specs.Step.{steppedOf}
 use Rattle.agree.specs.Seen.{Bytewise, Runs, seen, Kept, Agrees}
 use Rattle.agree.specs.Turns.{ranState, ranTurn, enteredReply, enteredRegisters, enteredState, enteredTurn}
 use Rattle.agree.proofs.Whole.{seen-sound}

@@ -15,9 +15,9 @@ use Rattle.machine.specs.Believed.{believed}
 use Rattle.instruction.specs.Code as Code
 use Rattle.instruction.specs.declared.step.Progress.{Progress}
 use Rattle.instruction.specs.declared.step.Progress.the-variants.{Next, Ended, Refused}
-use Rattle.eval.specs.Items.{Items}
-use Rattle.eval.specs.Step.{steppedOf}
-use Rattle.eval.specs.Run.{Running, following, after, ranOf}
+use Rattle.step.specs.Items.{Items}
+use Rattle.step.specs.Step.{steppedOf}
+use Rattle.run.specs.Run.{Running, following, after, ranOf}
 use Rattle.agree.specs.Seen.{Bytewise, Runs, seen, Agrees}
 use Rattle.agree.specs.Turns.{ranState, ranTurn}
 use Rattle.agree.proofs.Step.{FollowsItems, step-agrees}

@@ -41,7 +41,7 @@ use Rattle.calls.specs.declared.fields.Callee.{Callee}
 use Rattle.calls.proofs.VariablesAgree.{CalleeRead}
 use Rattle.calls.proofs.Stands.{function-stands}
 use Rattle.calls.proofs.StartAgrees.{StartAgrees, start-refused, start-went, tagsOf, bitsOf, AllGood, start-agrees}
-use Rattle.eval.specs.Items.{itemsOf}
+use Rattle.eval.specs.Loaded.{itemsOf}
 use Rattle.eval.specs.Entry.{Entering, steppedFrom, staying}
 use Rattle.eval.specs.Start.{isValue, valueAt, wantedOf, startRefusal, startLoaded, startEntered}
 use Rattle.eval.specs.declared.entry.Entered.the-variants as entered

@@ -21,8 +21,8 @@ use Rattle.image.specs.Standing.{Stand}
 use Rattle.instruction.specs.Decode.{fieldAt}
 use Rattle.agree.specs.Seen.{Runs, seen}
 use Rattle.image.specs.Limits.{IsInstruction, countsOf}
-use Rattle.eval.specs.Items.{Items}
-use Rattle.eval.specs.Step.{dispatched, steppedOf}
+use Rattle.step.specs.Items.{Items}
+use Rattle.step.specs.Step.{dispatched, steppedOf}
 use Rattle.agree.proofs.Fields.{field-stands}
 use Rattle.agree.proofs.Finish.{refusal}
 use Rattle.agree.proofs.Steady.{Steady, steady}

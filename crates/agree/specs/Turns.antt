@@ -12,10 +12,10 @@ use Rattle.memory.specs.declared.Outcome.the-variants as outcome
 use Rattle.machine.specs.Machine as Machine
 use Rattle.machine.specs.Asks.{Reply, done, gave, bytes, lists, returned, refusal, Turn, turn}
 use Rattle.machine.specs.Asks as Asks
-use Rattle.eval.specs.Run.{Running}
+use Rattle.run.specs.Run.{Running}
 use Rattle.eval.specs.Entry.{Entering, Reading}
-use Rattle.eval.specs.declared.run.Ran.{Ran}
-use Rattle.eval.specs.declared.run.Ran.the-variants as ran
+use Rattle.run.specs.declared.Ran.{Ran}
+use Rattle.run.specs.declared.Ran.the-variants as ran
 use Rattle.eval.specs.declared.entry.Entered.{Entered}
 use Rattle.eval.specs.declared.entry.Entered.the-variants as entered
 use Rattle.eval.specs.declared.entry.Readout.{Readout}

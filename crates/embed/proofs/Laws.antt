@@ -18,11 +18,11 @@ use Rattle.memory.specs.declared.Given.{Given}
 use Rattle.memory.specs.declared.Outcome.{Outcome}
 use Rattle.memory.specs.Tables.{state, tables, Both, both, all, out, Listing, listing, freshOf}
 use Rattle.instruction.specs.declared.variables.Found.{Found}
-use Rattle.eval.specs.Run.{running}
+use Rattle.run.specs.Run.{running}
 use Rattle.eval.specs.Entry.{entering, readOut, runEntered, stepEntered, readEntered}
 use Rattle.eval.specs.Start.{startEntered}
 use Rattle.eval.specs.Host.{hostAllocated, hostWritten, hostListed}
-use Rattle.eval.specs.declared.run.Ran.{Ran}
+use Rattle.run.specs.declared.Ran.{Ran}
 use Rattle.eval.specs.declared.entry.Entered.{Entered}
 use Rattle.eval.specs.declared.entry.Readout.{Readout}
 use Rattle.replies.specs.declared.words.Reply.{Reply}

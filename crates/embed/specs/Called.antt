@@ -11,7 +11,7 @@ use Rattle.image_writer.specs.Answer.{outcome, buffer}
 use Rattle.memory.specs.declared.Registers.{Registers}
 use Rattle.memory.specs.Tables.{State, state, tables, Both, both, All, Out, Columns, columns, Listing, freshOf}
 use Rattle.instruction.specs.declared.variables.Found.{Found}
-use Rattle.eval.specs.Run.{Running}
+use Rattle.run.specs.Run.{Running}
 use Rattle.eval.specs.Entry.{Entering, Reading, runEntered, stepEntered, readEntered}
 use Rattle.eval.specs.Start.{startEntered}
 use Rattle.eval.specs.Host.{hostAllocated, hostWritten, hostListed}

@@ -8,7 +8,7 @@ use lib.Seq.{take-all, take-suc, take-suc-set}
 use Rattle.image.specs.Parse.{Got, took, refused}
 use Rattle.image.specs.Number.{number}
 use Rattle.decode.specs.Extents.{extent, extentsAt}
-use Rattle.eval.specs.Items.{extentOf}
+use Rattle.eval.specs.Loaded.{extentOf}
 use Rattle.eval.specs.declared.entry.Extent.{Extent}
 
 extents-append : (s xs : List ℕ) (c : ℕ) → extentsAt s (xs ++ (c ∷ [])) ≡ extentsAt s xs ++ extent (number s c)

@@ -27,7 +27,8 @@ use Rattle.instruction.specs.declared.step.Progress.{Progress}
 use Rattle.calls.specs.Fields.{placeIn, calleeAt}
 use Rattle.calls.specs.Begin.{begunOf}
 use Rattle.calls.specs.declared.fields.Callee.{Callee}
-use Rattle.eval.specs.Items.{Items, itemsIn}
+use Rattle.step.specs.Items.{Items}
+use Rattle.eval.specs.Loaded.{itemsIn}
 use Rattle.eval.specs.Entry.{entering, staying, steppedAs, steppedFrom}
 use Rattle.eval.specs.Start.{ofKind, isValue, valueAt, wantedOf, startRefusal, startLoaded, startEntered}
 use Rattle.eval.specs.declared.entry.Entered.{Entered}

@@ -24,12 +24,13 @@ use Rattle.loader.specs.declared.load.Loaded.{Loaded}
 use Rattle.instruction.specs.Code.{Stepped}
 use Rattle.instruction.specs.declared.step.Progress.{Progress}
 use Rattle.instruction.specs.declared.step.Progress.the-variants as progress
-use Rattle.eval.specs.Items.{Items, items, itemsIn, itemsOf}
-use Rattle.eval.specs.Step.{steppedOf}
-use Rattle.eval.specs.Run.{Running, running, resting, after, ranOf}
+use Rattle.step.specs.Items.{Items, items}
+use Rattle.eval.specs.Loaded.{itemsIn, itemsOf}
+use Rattle.step.specs.Step.{steppedOf}
+use Rattle.run.specs.Run.{Running, running, resting, after, ranOf}
 use Rattle.eval.specs.Entry.{Entering, entering, staying, steppedAs, steppedFrom, asEntered, Bounded, runLoaded, runAfter, runEntered, stepLoaded, stepAfter, stepEntered, readOut, reading, readAs, readLoaded, readAfter, readEntered}
-use Rattle.eval.specs.declared.run.Ran.{Ran}
-use Rattle.eval.specs.declared.run.Ran.the-variants as ran
+use Rattle.run.specs.declared.Ran.{Ran}
+use Rattle.run.specs.declared.Ran.the-variants as ran
 use Rattle.eval.specs.declared.entry.Entered.{Entered}
 use Rattle.eval.specs.declared.entry.Entered.the-variants as entered
 use Rattle.eval.specs.declared.entry.Readout.{Readout}

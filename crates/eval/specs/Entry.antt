@@ -17,11 +17,12 @@ use Rattle.memory.specs.Tables.{State, Both, both, soundOf, readOf}
 use Rattle.instruction.specs.Code.{Stepped}
 use Rattle.instruction.specs.declared.step.Progress.{Progress}
 use Rattle.instruction.specs.declared.step.Progress.the-variants as progress
-use Rattle.eval.specs.Items.{Items, itemsOf}
-use Rattle.eval.specs.Step.{steppedOf}
-use Rattle.eval.specs.Run.{Running, running, resting, ranOf}
-use Rattle.eval.specs.declared.run.Ran.{Ran}
-use Rattle.eval.specs.declared.run.Ran.the-variants as ran
+use Rattle.step.specs.Items.{Items}
+use Rattle.eval.specs.Loaded.{itemsOf}
+use Rattle.step.specs.Step.{steppedOf}
+use Rattle.run.specs.Run.{Running, running, resting, ranOf}
+use Rattle.run.specs.declared.Ran.{Ran}
+use Rattle.run.specs.declared.Ran.the-variants as ran
 use Rattle.eval.specs.declared.entry.Entered.{Entered}
 use Rattle.eval.specs.declared.entry.Entered.the-variants as entered
 use Rattle.eval.specs.declared.entry.Readout.{Readout}

@@ -1,6 +1,4 @@
-pub mod Items
-pub mod Step
-pub mod Run
+pub mod Loaded
 pub mod Host
 pub mod Entry
 pub mod Start

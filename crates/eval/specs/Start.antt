@@ -18,7 +18,8 @@ use Rattle.instruction.specs.declared.variables.Found.{Found}
 use Rattle.calls.specs.Fields.{placeIn, calleeAt}
 use Rattle.calls.specs.Begin.{begunOf}
 use Rattle.calls.specs.declared.fields.Callee.{Callee}
-use Rattle.eval.specs.Items.{Items, itemsOf}
+use Rattle.step.specs.Items.{Items}
+use Rattle.eval.specs.Loaded.{itemsOf}
 use Rattle.eval.specs.Entry.{Entering, staying, steppedFrom}
 use Rattle.eval.specs.declared.entry.Entered.the-variants as entered
 

@@ -1,6 +1,4 @@
 // The evaluator's entries, from the loop of eval.rs: start, step, run and the host's calls. Each takes any bytes, any tables and any numbers.
-pub mod dispatch;
 pub mod entry;
 pub mod host;
-pub mod run;
 pub mod start;

@@ -2,7 +2,7 @@
 ghost use mathlib.Core.Path.{_≡_};
 ghost use lib.ListN.{length};
 ghost use Rattle.memory.specs.Tables.{tables, state, every};
-ghost use Rattle.eval.specs.Items.{itemsIn};
+ghost use Rattle.eval.specs.Loaded.{itemsIn};
 ghost use Rattle.eval.specs.Entry.{entering, steppedAs, Bounded};
 ghost use Rattle.eval.specs.Start.{isValue, valueAt, wantedOf, startRefusal, startLoaded, startEntered};
 use crate::entry::Entered;

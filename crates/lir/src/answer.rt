@@ -15,7 +15,6 @@ use answers::line::write_taken;
 use answers::line::write_value_line;
 use eval::entry::Entered;
 use eval::entry::Readout;
-use eval::run::Ran;
 use image::field::Step;
 use image_writer::writer::Outcome as Rewritten;
 use instruction::variables::Found;
@@ -23,6 +22,7 @@ use loader::load::Loaded;
 use memory::Given;
 use memory::Outcome;
 use memory::Registers;
+use run::Ran;
 use words::Written;
 
 // The registers of a state after a run, a start or a step: as before where it was refused at once.

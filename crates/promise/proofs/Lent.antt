@@ -31,7 +31,7 @@ use Rattle.calls.specs.Variables.{slotsPointed}
 use Rattle.calls.specs.Code.{slotsMadeOf, unchanged}
 use Rattle.calls.specs.Begin.{valuesSet, flaggedSet, startedSet, variablesSet, withSlots, begunIn, begunAt, begunOf}
 use Rattle.calls.specs.declared.fields.Callee.{Callee}
-use Rattle.eval.specs.Items.{itemsOf}
+use Rattle.eval.specs.Loaded.{itemsOf}
 use Rattle.eval.specs.Entry.{Entering, steppedFrom, staying}
 use Rattle.eval.specs.Start.{isValue, valueAt, wantedOf, startRefusal, startLoaded, startAfter, startEntered}
 use Rattle.eval.specs.declared.entry.Entered.the-variants as entered

@@ -35,13 +35,14 @@ use Rattle.instruction.specs.Variables.{found}
 use Rattle.instruction.specs.Code.{Stepped}
 use Rattle.instruction.specs.declared.step.Progress.{Progress}
 use Rattle.instruction.specs.declared.step.Progress.the-variants.{Next, Ended, Refused}
-use Rattle.eval.specs.Items.{Items, itemsOf}
-use Rattle.eval.specs.Step.{steppedOf}
-use Rattle.eval.specs.Run.{resting, following, after, ranOf}
+use Rattle.step.specs.Items.{Items}
+use Rattle.eval.specs.Loaded.{itemsOf}
+use Rattle.step.specs.Step.{steppedOf}
+use Rattle.run.specs.Run.{resting, following, after, ranOf}
 use Rattle.eval.specs.Host.{hostAllocated, hostWritten, hostListed}
 use Rattle.eval.specs.Entry.{Entering, Reading, readOut, readAs, steppedAs, runLoaded, runEntered, stepLoaded, stepEntered, steppedFrom, staying, readLoaded, readAfter, readEntered}
 use Rattle.eval.specs.Start.{startEntered}
-use Rattle.eval.specs.declared.run.Ran.the-variants as ran
+use Rattle.run.specs.declared.Ran.the-variants as ran
 use Rattle.eval.specs.declared.entry.Entered.the-variants as entered
 use Rattle.eval.specs.declared.entry.Readout.the-variants as readout
 use Rattle.agree.specs.Seen.{Bytewise, Runs, Kept}

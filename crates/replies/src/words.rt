@@ -4,12 +4,12 @@ ghost use lib.ListN.{getD};
 ghost use Rattle.replies.specs.Words.{shapedOf, registersIn, registersPut, replyPut, countedOf, afterMoved, afterEntered, afterRun, afterGiven, replyMoved, replyEntered, replyRun, replyGiven, replyRead, replyWritten, numberOf};
 use eval::entry::Entered;
 use eval::entry::Readout;
-use eval::run::Ran;
 use image_writer::writer::Outcome as Written;
 use memory::Given;
 use memory::Moved;
 use memory::Outcome;
 use memory::Registers;
+use run::Ran;
 
 // How many words the registers and an answer are.
 pub const REGISTERS: usize = 5;

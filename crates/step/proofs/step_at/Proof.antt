@@ -1,10 +1,10 @@
 -- `dispatch::step_at` meets its contract: each arm of the match is the definition at its opcode.
 use native.Mathlib.Omega.{arith}
 use mathlib.Core.Path.{refl, _∙_}
-use Rattle.eval.proofs.Arms.{six-on, beyond, arrives, jumps, switches, assigns, addresses, calls, returns-to, combines, changes, offsets, initializes, writes, reads, copies, drops, unknown}
+use Rattle.step.proofs.Arms.{six-on, beyond, arrives, jumps, switches, assigns, addresses, calls, returns-to, combines, changes, offsets, initializes, writes, reads, copies, drops, unknown}
 use borrow.Author.Needs.{needs}
-use Rattle.eval.proofs.dispatch.step_at.Statement.{statement}
-use Rattle.eval.proofs.dispatch.step_at.Tie as tie
+use Rattle.step.proofs.step_at.Statement.{statement}
+use Rattle.step.proofs.step_at.Tie as tie
 
 returns : tie.Need-returns
 returns c = beyond _ _ (omega arith)

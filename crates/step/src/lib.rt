@@ -2,8 +2,8 @@
 ghost use mathlib.Core.Path.{_≡_};
 ghost use Rattle.memory.specs.Tables.{tables, state};
 ghost use Rattle.instruction.specs.Code.{stepped};
-ghost use Rattle.eval.specs.Items.{items};
-ghost use Rattle.eval.specs.Step.{steppedOf};
+ghost use Rattle.step.specs.Items.{items};
+ghost use Rattle.step.specs.Step.{steppedOf};
 use calls::call::call;
 use instruction::back::return_value;
 use instruction::field::read_field;

@@ -1,4 +1,4 @@
--- What a step takes of an image that was loaded: its bytes, and where its instructions, labels, functions and constants are.
+-- The items of an image that was loaded, by the loader's tables.
 use Prim.Native.Nat.{ℕ}
 use mathlib.Core.List.{List}
 use lib.ListN.{take}
@@ -7,16 +7,7 @@ use Rattle.eval.specs.declared.entry.Extent.{Extent}
 use Rattle.loader.specs.Tables.{loadedFrom}
 use Rattle.loader.specs.declared.load.Loaded.{Loaded}
 use Rattle.decode.specs.Extents.{extentsAt}
-
-pub record Items : Type 0 where
-  pub bytes : List ℕ
-  pub places : List ℕ
-  pub labels : List ℕ
-  pub functions : List ℕ
-  pub extents : List ℕ
-
-abbrev pub items : (bytes places labels functions extents : List ℕ) → Items
-items s p l f e = record { bytes = s; places = p; labels = l; functions = f; extents = e }
+use Rattle.step.specs.Items.{Items, items}
 
 -- a constant's bytes, by its length: none where it is refused
 abbrev pub extentOf : Got ℕ → Extent

@@ -10,10 +10,10 @@ use Rattle.instruction.specs.Code.{Stepped, stepped}
 use Rattle.instruction.specs.declared.variables.Found.{Found}
 use Rattle.instruction.specs.declared.step.Progress.{Progress}
 use Rattle.instruction.specs.declared.step.Progress.the-variants.{Next, Ended, Refused}
-use Rattle.eval.specs.Items.{Items}
-use Rattle.eval.specs.Step.{steppedOf}
-use Rattle.eval.specs.Run.{Running, running, resting, after, ranOf}
-use Rattle.eval.specs.declared.run.Ran.the-variants as ran
+use Rattle.step.specs.Items.{Items}
+use Rattle.step.specs.Step.{steppedOf}
+use Rattle.run.specs.Run.{Running, running, resting, after, ranOf}
+use Rattle.run.specs.declared.Ran.the-variants as ran
 
 module _ (i : Items) (t : State) (done : ℕ) (store frames bounds pointers vars : List ℕ) where
   -- one step is taken of those left

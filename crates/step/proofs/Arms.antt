@@ -14,8 +14,8 @@ use Rattle.instruction.specs.declared.field.Field.{Field}
 use Rattle.instruction.specs.declared.step.Progress.{Progress}
 use Rattle.instruction.specs.declared.step.Progress.the-variants.{Next, Refused}
 use Rattle.calls.specs.Code.{calledOf}
-use Rattle.eval.specs.Items.{Items}
-use Rattle.eval.specs.Step.{unchanged, withVariables, withStore, withPointers, onward, moved, dispatched, steppedOf}
+use Rattle.step.specs.Items.{Items}
+use Rattle.step.specs.Step.{unchanged, withVariables, withStore, withPointers, onward, moved, dispatched, steppedOf}
 
 -- a number that is at least k and is not k is above it
 above : (k n : ℕ) → k ≤ n → (n ≡ k → ⊥) → k + 1 ≤ n

@@ -6,10 +6,10 @@ use Rattle.memory.specs.Tables.{State, state, tables}
 use Rattle.instruction.specs.Code.{Stepped}
 use Rattle.instruction.specs.declared.step.Progress.{Progress}
 use Rattle.instruction.specs.declared.step.Progress.the-variants as progress
-use Rattle.eval.specs.Items.{Items}
-use Rattle.eval.specs.Step.{steppedOf}
-use Rattle.eval.specs.declared.run.Ran.{Ran}
-use Rattle.eval.specs.declared.run.Ran.the-variants as ran
+use Rattle.step.specs.Items.{Items}
+use Rattle.step.specs.Step.{steppedOf}
+use Rattle.run.specs.declared.Ran.{Ran}
+use Rattle.run.specs.declared.Ran.the-variants as ran
 
 -- an answer, with all tables
 pub record Running : Type 0 where

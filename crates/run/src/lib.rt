@@ -2,12 +2,12 @@
 ghost use mathlib.Core.Path.{_≡_};
 ghost use Prim.Native.Nat.{_+_, _-_, _≤_};
 ghost use Rattle.memory.specs.Tables.{tables, state};
-ghost use Rattle.eval.specs.Items.{items};
-ghost use Rattle.eval.specs.Run.{running, ranOf};
-use crate::dispatch::step_at;
+ghost use Rattle.step.specs.Items.{items};
+ghost use Rattle.run.specs.Run.{running, ranOf};
 use instruction::step::Progress;
 use instruction::variables::Found;
 use memory::Registers;
+use step::step_at;
 
 // What a run answers, with the count of its steps: returned a value or none (tag 0), paused, or stopped by a refused instruction.
 // Refused and NotLoaded are the entry's, before any step.

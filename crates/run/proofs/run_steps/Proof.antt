@@ -5,11 +5,11 @@ use borrow.Author.Needs.{needs}
 use mathlib.Core.Path.{_≡_, refl, ap, _∙_}
 use lib.ListN.{length}
 use Rattle.memory.specs.Tables.{tables, state}
-use Rattle.eval.specs.Items.{items}
-use Rattle.eval.specs.Run.{ranOf}
-use Rattle.eval.proofs.Turns.{next-of, ended-of, refused-of, paused-of, fewer, all-left}
-use Rattle.eval.proofs.run.run_steps.Statement.{statement}
-use Rattle.eval.proofs.run.run_steps.Tie as tie
+use Rattle.step.specs.Items.{items}
+use Rattle.run.specs.Run.{ranOf}
+use Rattle.run.proofs.Turns.{next-of, ended-of, refused-of, paused-of, fewer, all-left}
+use Rattle.run.proofs.run_steps.Statement.{statement}
+use Rattle.run.proofs.run_steps.Tie as tie
 
 abbrev Inv-loop : tie.InvT-loop
 Inv-loop budget image places labels functions extents store₀ frames₀ bounds₀ pointers₀ vars₀ here₀ done₀ store frames bounds pointers vars here done =

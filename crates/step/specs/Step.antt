@@ -13,7 +13,7 @@ use Rattle.instruction.specs.Storage.{Pointed, addressedOf, offsettedOf, return
 use Rattle.instruction.specs.declared.step.Progress.{Progress}
 use Rattle.instruction.specs.declared.step.Progress.the-variants.{Next, Refused}
 use Rattle.calls.specs.Code.{calledOf}
-use Rattle.eval.specs.Items.{Items}
+use Rattle.step.specs.Items.{Items}
 
 -- ---- an answer, with the tables that changed and the others as they were
 
