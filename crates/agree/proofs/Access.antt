@@ -37,7 +37,7 @@ use Rattle.instruction.specs.declared.step.Progress.{Progress}
 use Rattle.instruction.specs.declared.step.Progress.the-variants.{Refused}
 use Rattle.calls.proofs.CallAgrees.{moved-sound, moved-seen}
 use Rattle.calls.proofs.VariablesAgree.{read-next}
-use Rattle.agree.specs.Seen.{Bytewise, seen, Agrees}
+use Rattle.agree.specs.Seen.{seen, Agrees}
 use Rattle.agree.proofs.Fields.{field-stands, operand-stands, operand-last}
 use Rattle.instruction.proofs.Values.{Fits, found-answer, operand-found, operand-good}
 use Rattle.agree.proofs.Bytes.{paste-bytes, bytes-are}
@@ -47,6 +47,7 @@ use Rattle.agree.proofs.Finish.{refusal, went-same, onward, VariablesAg
 use Rattle.agree.proofs.Compute.{then-then}
 use Rattle.agree.proofs.Hand.{ahead}
 use Rattle.agree.proofs.Reach.{reached}
+use Rattle.image.specs.Limits.{AreBytes}
 
 -- ---- bytes are written
 
@@ -57,11 +58,11 @@ with-store s store = state (tables (s .memory .registers) store (s .memory .fram
 abbrev pub StoreAgrees : State → Both Progress → Answer (Stepped Memory) → Type 0
 StoreAgrees s b x = Agrees s (b .answer) (λ m. state (tables m (b .table) (s .memory .frames) (s .memory .bounds) (s .memory .pointers)) (s .variables)) x
 
-put-bytes : (p : Place) (store bytes : List ℕ) → Bytewise store → Bytewise bytes → Bytewise (putAt p store bytes .table)
+put-bytes : (p : Place) (store bytes : List ℕ) → AreBytes store → AreBytes bytes → AreBytes (putAt p store bytes .table)
 put-bytes (place.At at) store bytes f g = paste-bytes store at bytes (length bytes) f g
 put-bytes (place.Refused n) store bytes f g = f
 
-pub written-bytes : (t : Tables) (p : ℕ) (bytes : List ℕ) → Bytewise (t .store) → Bytewise bytes → Bytewise (writtenOf t p bytes .table)
+pub written-bytes : (t : Tables) (p : ℕ) (bytes : List ℕ) → AreBytes (t .store) → AreBytes bytes → AreBytes (writtenOf t p bytes .table)
 unfolding writtenOf
 written-bytes t p bytes f g = put-bytes (writeAccessOf t p (length bytes)) (t .store) bytes f g
 
@@ -83,7 +84,7 @@ module _ (s : State) (st : Steady s) (room : s .memory .registers .next < 4096) 
 
   -- where the memory's answer is the believed one, its store is sound, and a refusal leaves it as it stood
   put-agrees : (a : Outcome) (store : List ℕ) (x : Answer Memory) → onOutcome a (view (storeTables (ahead s) store)) ≡ x → (a ≡ outcome.Done → Sound (storeTables (ahead s) store))
-      → Bytewise store → ((n : ℕ) → a ≡ outcome.Refused n → store ≡ s .memory .store) → StoreAgrees s (wentOn (onward s) (both a store)) (x >>= λ m. Machine.onward believed (seen s) m (variablesIn (s .variables)))
+      → AreBytes store → ((n : ℕ) → a ≡ outcome.Refused n → store ≡ s .memory .store) → StoreAgrees s (wentOn (onward s) (both a store)) (x >>= λ m. Machine.onward believed (seen s) m (variablesIn (s .variables)))
   unfolding _>>=_
   put-agrees outcome.Done store x e so bytes left =
       rw (sym e)
@@ -91,7 +92,7 @@ module _ (s : State) (st : Steady s) (room : s .memory .registers .next < 4096) 
   put-agrees (outcome.Refused n) store x e so bytes left = rw (sym e) (refusal (ap (with-store s) (left n refl)))
 
   -- bytes through pointer p
-  written-agrees : (p : ℕ) (bytes : List ℕ) → Bytewise bytes
+  written-agrees : (p : ℕ) (bytes : List ℕ) → AreBytes bytes
       → StoreAgrees s (wentOn (onward s) (writtenOf (ahead s) p bytes)) (writeBytes (view (s .memory)) p bytes >>= λ m. Machine.onward believed (seen s) m (variablesIn (s .variables)))
   unfolding afterWrite
   written-agrees p bytes f =

@@ -29,12 +29,13 @@ use Rattle.run.specs.Run.{resting, ranOf}
 use Rattle.run.specs.declared.Ran.the-variants as ran
 use Rattle.eval.specs.declared.entry.Entered.the-variants as entered
 use Rattle.step.specs.Step.{steppedOf}
-use Rattle.agree.specs.Seen.{Bytewise, Runs, seen, Kept, Agrees}
+use Rattle.agree.specs.Seen.{Runs, seen, Kept, Agrees}
 use Rattle.agree.specs.Turns.{ranState, ranTurn, enteredReply, enteredRegisters, enteredState, enteredTurn}
 use Rattle.agree.proofs.Whole.{seen-sound}
 use Rattle.agree.proofs.Loaded.{loaded-follows}
 use Rattle.agree.proofs.Step.{step-agrees}
 use Rattle.agree.proofs.Run.{ran-agrees, ran-kept, ran-bytes}
+use Rattle.image.specs.Limits.{AreBytes}
 
 pub is-true : (b : Bool) → T b → b ≡ true
 is-true true t = refl
@@ -61,19 +62,19 @@ kept-turn t so (Next m) after k = k .sound
 kept-turn t so (Ended m v) after k = k .0
 kept-turn t so (Refused n) after k = rw k so
 
-kept-bytes : (t : State) → Bytewise (t .memory .store) → (p : Progress) (after : Registers → State) → Kept t p after → Bytewise (after (enteredRegisters (t .memory .registers) (steppedAs p)) .memory .store)
+kept-bytes : (t : State) → AreBytes (t .memory .store) → (p : Progress) (after : Registers → State) → Kept t p after → AreBytes (after (enteredRegisters (t .memory .registers) (steppedAs p)) .memory .store)
 kept-bytes t b (Next m) after k = k .bytes
 kept-bytes t b (Ended m v) after k = k .1
-kept-bytes t b (Refused n) after k = subst (λ (u : State). Bytewise (u .memory .store)) (sym k) b
+kept-bytes t b (Refused n) after k = subst (λ (u : State). AreBytes (u .memory .store)) (sym k) b
 
 -- the tables of a sound state, whose store is made of bytes
-module _ (t : State) (so : soundOf t ≡ true) (bytes : Bytewise (t .memory .store)) where
+module _ (t : State) (so : soundOf t ≡ true) (bytes : AreBytes (t .memory .store)) where
   pub asked : (a : Ask) → enter a (seen t) ≡ ask believed a (seen t)
   unfolding enter
   asked a = rw (is-true (sound (seen t)) (seen-sound t so bytes))
 
   -- an image that was loaded
-  module _ (s : List ℕ) (whole : Bytewise s) (P : Program) (e : ℕ) (h : loaded s ≡ took P e) where
+  module _ (s : List ℕ) (whole : AreBytes s) (P : Program) (e : ℕ) (h : loaded s ≡ took P e) where
     runs : eqb (t .memory .registers .running) 1 ≡ true → Runs t
     runs r = record { sound = so; running = eqb-true _ 1 r; bytes = bytes }
 
@@ -114,18 +115,18 @@ module _ (t : State) (so : soundOf t ≡ true) (bytes : Bytewise (t .memory .sto
         go true r = kept-turn t so (steppedOf (itemsOf s) t .answer) _ (step-agrees t (runs r) (itemsOf s) P (loaded-follows s whole P e h) .kept)
         go false r = so
 
-    pub run-bytes : (budget : ℕ) → Bytewise (runEntered s budget t .store)
+    pub run-bytes : (budget : ℕ) → AreBytes (runEntered s budget t .store)
     unfolding runEntered runLoaded
     run-bytes budget = rw (loaded-end s P e h, so) (go (eqb (t .memory .registers .running) 1) refl)
       where
-        go : (b : Bool) → eqb (t .memory .registers .running) 1 ≡ b → Bytewise (pick b (ranOf (itemsOf s) budget 0 t) (resting (ran.Refused idle) t) .store)
+        go : (b : Bool) → eqb (t .memory .registers .running) 1 ≡ b → AreBytes (pick b (ranOf (itemsOf s) budget 0 t) (resting (ran.Refused idle) t) .store)
         go true r = ran-bytes (t .memory .registers) (itemsOf s) P (loaded-follows s whole P e h) budget 0 t (runs r)
         go false r = bytes
 
-    pub step-bytes : Bytewise (stepEntered s t .store)
+    pub step-bytes : AreBytes (stepEntered s t .store)
     unfolding stepEntered stepLoaded
     step-bytes = rw (loaded-end s P e h, so) (go (eqb (t .memory .registers .running) 1) refl)
       where
-        go : (b : Bool) → eqb (t .memory .registers .running) 1 ≡ b → Bytewise (pick b (steppedFrom (steppedOf (itemsOf s) t)) (staying (entered.Refused idle) t) .store)
+        go : (b : Bool) → eqb (t .memory .registers .running) 1 ≡ b → AreBytes (pick b (steppedFrom (steppedOf (itemsOf s) t)) (staying (entered.Refused idle) t) .store)
         go true r = kept-bytes t bytes (steppedOf (itemsOf s) t .answer) _ (step-agrees t (runs r) (itemsOf s) P (loaded-follows s whole P e h) .kept)
         go false r = bytes

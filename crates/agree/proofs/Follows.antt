@@ -8,9 +8,8 @@ use lib.ListN.{length, getD}
 use Rattle.image.specs.Program.{Program, Operand, variable, literal, Branch, functionAt, code, Instruction}
 use Rattle.image.specs.Written as W
 use Rattle.image.specs.Standing.{Stands}
-use Rattle.image.specs.Limits.{Each, IfAny, IsBranch, IsOperand, IsInstruction, IsFunctionItem, countsOf}
+use Rattle.image.specs.Limits.{Each, IfAny, IsBranch, IsOperand, IsInstruction, IsFunctionItem, countsOf, AreBytes}
 use Rattle.instruction.proofs.Values.{Fits}
-use Rattle.agree.specs.Seen.{Bytewise}
 use Rattle.agree.proofs.Compute.{ThreeFit}
 use Rattle.agree.proofs.Jump.{Labelled, LabelsFit}
 use Rattle.agree.proofs.Return.{FitsIf}
@@ -42,7 +41,7 @@ module _ (P : Program) (few : P .variables ≤ 256) where
 
 -- what a step knows of an image that was loaded, of its program P and of the tables of its items' places
 pub record Follows (P : Program) (image places labels functions extents : List ℕ) : Type 0 where
-  pub bytes : Bytewise image
+  pub bytes : AreBytes image
   pub variables : P .variables ≤ 256
   pub instructions : length (code P) ≤ 4096
   pub placed : length places ≡ length (code P)

@@ -28,12 +28,13 @@ use Rattle.instruction.specs.Storage.{Pointed, pointed, pointedOf, handedOf, ad
 use Rattle.instruction.specs.declared.step.Progress.the-variants.{Refused}
 use Rattle.calls.proofs.CallAgrees.{moved, moved-sound, moved-seen}
 use Rattle.calls.proofs.VariablesAgree.{read-next}
-use Rattle.agree.specs.Seen.{Bytewise, seen, Agrees}
+use Rattle.agree.specs.Seen.{seen, Agrees}
 use Rattle.agree.proofs.Fields.{field-stands, operand-stands}
 use Rattle.instruction.proofs.Values.{Fits, operand-found, operand-good, variable-set, variables-kept}
 use Rattle.agree.proofs.Steady.{Steady, runs}
 use Rattle.agree.proofs.Finish.{refusal, went-same, onward}
 use Rattle.agree.proofs.Reach.{reached}
+use Rattle.image.specs.Limits.{AreBytes}
 
 -- what is handed out is the next number, and the count of pointers rises; else nothing
 pub data Hands (m : Registers) : Given → Type 0 where
@@ -52,7 +53,7 @@ module _ (s : State) (st : Steady s) (room : s .memory .registers .next < 4096) 
   -- where a memory's answer is the believed one, its tables are sound, and a refusal leaves them as they stood
   pub point-agrees : (to : ℕ) → to < 256 → (a : Given) (store frames bounds pointers : List ℕ) → Hands (onward s) a → (x : Answer Memory)
       → onGiven a (λ m. view (tables m store frames bounds pointers)) ≡ x → ((p : ℕ) (m : Registers) → a ≡ given.Made p m → Sound (tables m store frames bounds pointers))
-      → Bytewise store → ((n : ℕ) → a ≡ given.Refused n → tables (onward s) store frames bounds pointers ≡ ahead s)
+      → AreBytes store → ((n : ℕ) → a ≡ given.Refused n → tables (onward s) store frames bounds pointers ≡ ahead s)
       → Agrees s (pointedOf a (s .variables) to .answer) (λ m. state (tables m store frames bounds pointers) (pointedOf a (s .variables) to .table)) (x >>= λ m. points believed (seen s) to m)
   unfolding _>>=_
   point-agrees to l _ store frames bounds pointers hands x e so bytes left =

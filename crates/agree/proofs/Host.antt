@@ -34,7 +34,7 @@ use Rattle.machine.specs.Entries.{enter}
 use Rattle.decode.specs.Extents.{extentsOf}
 use Rattle.eval.specs.Host.{hostAllocated, hostWritten, hostListed}
 use Rattle.eval.specs.Entry.{reading, readLoaded, readEntered}
-use Rattle.agree.specs.Seen.{Bytewise, seen}
+use Rattle.agree.specs.Seen.{seen}
 use Rattle.agree.specs.Turns.{allocatedState, allocatedTurn, writtenState, writtenTurn, readReply, readTurn, listedTurn}
 use Rattle.agree.proofs.Steady.{tables-sound, again-sound}
 use Rattle.agree.proofs.Hand.{Hands, hands, withholds}
@@ -42,6 +42,7 @@ use Rattle.agree.proofs.Initialize.{Left, allots}
 use Rattle.agree.proofs.Access.{written-bytes, written-left}
 use Rattle.agree.proofs.Loaded.{loaded-follows}
 use Rattle.agree.proofs.Entries.{loaded-end, asked}
+use Rattle.image.specs.Limits.{AreBytes}
 
 module _ (t : State) (st : Sound (t .memory)) where
   -- by what an allocation hands out
@@ -91,7 +92,7 @@ rooms n l f a o =
     ∙ ap (λ b. leb n (length l) && b) (least n (length f) (min (length a) (length o)) ∙ ap (λ b. leb n (length f) && b) (least n (length a) (length o)))
 
 -- the tables of a sound state, whose store is made of bytes
-module _ (t : State) (so : soundOf t ≡ true) (bytes : Bytewise (t .memory .store)) where
+module _ (t : State) (so : soundOf t ≡ true) (bytes : AreBytes (t .memory .store)) where
   st : Sound (t .memory)
   st = tables-sound t so .0
 
@@ -111,7 +112,7 @@ module _ (t : State) (so : soundOf t ≡ true) (bytes : Bytewise (t .memory .sto
       (written-turn t st (r .answer) (r .table) (written-left (t .memory) p bs) (writeBytes (view (t .memory)) p bs) (write-view (t .memory) st p bs))
 
   -- as many bytes as the buffer has
-  pub read-enters : (s : List ℕ) → Bytewise s → (P : Program) (e : ℕ) → loaded s ≡ took P e → (p : ℕ) (buffer : List ℕ)
+  pub read-enters : (s : List ℕ) → AreBytes s → (P : Program) (e : ℕ) → loaded s ≡ took P e → (p : ℕ) (buffer : List ℕ)
       → readTurn t (readEntered s p buffer t) ≡ enter (toRead P p (length buffer)) (seen t)
   unfolding readEntered readLoaded ask hostRead afterRead
   read-enters s whole P e h p buffer =
@@ -160,11 +161,11 @@ module _ (t : State) (so : soundOf t ≡ true) (bytes : Bytewise (t .memory .sto
       let r = writtenOf (t .memory) p bs in
       rw so (written-kept (r .answer) (r .table) (written-left (t .memory) p bs) (write-sound (t .memory) st p bs))
 
-  pub allocate-bytes : (n : ℕ) → Bytewise (hostAllocated t n .store)
+  pub allocate-bytes : (n : ℕ) → AreBytes (hostAllocated t n .store)
   unfolding hostAllocated
   allocate-bytes n = rw so (allots (t .memory) n .bytes bytes)
 
   -- where bytes are written
-  pub write-bytes : (p : ℕ) (bs : List ℕ) → Bytewise bs → Bytewise (hostWritten t p bs .table)
+  pub write-bytes : (p : ℕ) (bs : List ℕ) → AreBytes bs → AreBytes (hostWritten t p bs .table)
   unfolding hostWritten
   write-bytes p bs f = rw so (written-bytes (t .memory) p bs bytes f)

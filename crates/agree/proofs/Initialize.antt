@@ -33,7 +33,7 @@ use Rattle.instruction.specs.Code as Code
 use Rattle.instruction.specs.Storage.{givenBy, filledBy, madeOf, unstepped, initializedBy, initializedOf}
 use Rattle.instruction.specs.declared.step.Progress.the-variants.{Next}
 use Rattle.calls.proofs.CallAgrees.{moved-sound, moved-seen}
-use Rattle.agree.specs.Seen.{Bytewise, seen, Agrees}
+use Rattle.agree.specs.Seen.{seen, Agrees}
 use Rattle.agree.proofs.Fields.{field-stands}
 use Rattle.agree.proofs.Bytes.{zeroed-bytes, part-bytes}
 use Rattle.agree.proofs.Steady.{Steady, runs}
@@ -41,6 +41,7 @@ use Rattle.agree.proofs.Finish.{refusal, went-same, onward, withVariabl
 use Rattle.agree.proofs.Compute.{then-then}
 use Rattle.agree.proofs.Hand.{Hands, hands, withholds, never-refused, ahead, point-agrees}
 use Rattle.agree.proofs.Access.{written-bytes}
+use Rattle.image.specs.Limits.{AreBytes}
 
 -- an instruction that may change every table
 abbrev pub StepAgrees : State → Code.Stepped → Answer (Stepped Memory) → Type 0
@@ -63,7 +64,7 @@ Left t o = (k : ℕ) → o .answer ≡ given.Refused k → tables (t .registers)
 
 pub record Allots (t : Tables) (o : Out) : Type 0 where
   pub hand : Hands (t .registers) (o .answer)
-  pub bytes : Bytewise (t .store) → Bytewise (o .store)
+  pub bytes : AreBytes (t .store) → AreBytes (o .store)
   pub left : Left t o
 
 either : {t : Tables} (b : Bool) {x y : Out} → Allots t x → Allots t y → Allots t (pick b x y)
@@ -92,7 +93,7 @@ record Gives (t : Tables) (o : Out) (x : Answer Memory) : Type 0 where
   same : onGiven (o .answer) (λ m. view (tables m (o .store) (o .frames) (o .bounds) (o .pointers))) ≡ x
   sound : (p : ℕ) (n : Registers) → o .answer ≡ given.Made p n → Sound (tables n (o .store) (o .frames) (o .bounds) (o .pointers))
   hand : Hands (t .registers) (o .answer)
-  bytes : Bytewise (o .store)
+  bytes : AreBytes (o .store)
   left : Left t o
 
 made-same : {p q : ℕ} {m n : Registers} → given.Made p m ≡ given.Made q n → m ≡ n
@@ -110,7 +111,7 @@ Granted m p bs = (w : Memory) × (writeBytes m p bs ≡ ok w)
 
 module _ (t : Tables) (frames bounds pointers : List ℕ) where
   wrote : (a : Outcome) (store : List ℕ) (y : Answer Memory) → onOutcome a (view (tables (more (t .registers)) store frames bounds pointers)) ≡ y
-      → (a ≡ outcome.Done → Sound (tables (more (t .registers)) store frames bounds pointers)) → Bytewise store → (w : Memory) → y ≡ ok w
+      → (a ≡ outcome.Done → Sound (tables (more (t .registers)) store frames bounds pointers)) → AreBytes store → (w : Memory) → y ≡ ok w
       → Gives t (out (givenBy a (t .registers .pointers) (more (t .registers))) store frames bounds pointers) y
   wrote outcome.Done store y e so f w g = record {
     same = e;
@@ -121,8 +122,8 @@ module _ (t : Tables) (frames bounds pointers : List ℕ) where
   }
   wrote (outcome.Refused k) store y e so f w g = absurd (never-ok (e ∙ g))
 
-  filled : (bs : List ℕ) → Bytewise bs → (a : Given) (store : List ℕ) → Hands (t .registers) a → (x : Answer Memory) → onGiven a (λ n. view (tables n store frames bounds pointers)) ≡ x
-      → ((p : ℕ) (n : Registers) → a ≡ given.Made p n → Sound (tables n store frames bounds pointers)) → Bytewise store → Left t (out a store frames bounds pointers)
+  filled : (bs : List ℕ) → AreBytes bs → (a : Given) (store : List ℕ) → Hands (t .registers) a → (x : Answer Memory) → onGiven a (λ n. view (tables n store frames bounds pointers)) ≡ x
+      → ((p : ℕ) (n : Registers) → a ≡ given.Made p n → Sound (tables n store frames bounds pointers)) → AreBytes store → Left t (out a store frames bounds pointers)
       → ((m : Memory) → x ≡ ok m → Granted m (t .registers .pointers) bs)
       → Gives t (filledBy a store frames bounds pointers bs) (x >>= λ n. writeBytes n (t .registers .pointers) bs)
   unfolding _>>=_ afterWrite
@@ -149,7 +150,7 @@ allocate-is m n w e =
     let c = need-ok (ltb (length (m .pointers)) 4096) pointersFull _ w b in
     cc
 
-made-gives : (t : Tables) → Sound t → (n : ℕ) (bs : List ℕ) → length bs ≤ n → Bytewise (t .store) → Bytewise bs
+made-gives : (t : Tables) → Sound t → (n : ℕ) (bs : List ℕ) → length bs ≤ n → AreBytes (t .store) → AreBytes bs
     → Gives t (madeOf t n bs) (allocate (view t) n >>= λ m. writeBytes m (t .registers .pointers) bs)
 unfolding madeOf afterAllocate
 made-gives t so n bs fit f g =
@@ -161,8 +162,8 @@ made-gives t so n bs fit f g =
 
 -- ---- Initialize
 
-module _ (s : State) (st : Steady s) (room : s .memory .registers .next < 4096) (image : List ℕ) (P : Program) (bytes : Bytewise image) where
-  initialized : (to : ℕ) → to < 256 → (n : ℕ) (bs : List ℕ) → length bs ≤ n → Bytewise bs
+module _ (s : State) (st : Steady s) (room : s .memory .registers .next < 4096) (image : List ℕ) (P : Program) (bytes : AreBytes image) where
+  initialized : (to : ℕ) → to < 256 → (n : ℕ) (bs : List ℕ) → length bs ≤ n → AreBytes bs
       → StepAgrees s (initializedBy (madeOf (ahead s) n bs) (s .variables) to)
       (allocate (view (s .memory)) n >>= λ m. writeBytes m (length (view (s .memory) .pointers)) bs >>= λ m′. points believed (seen s) to m′)
   initialized to l n bs fit f =
@@ -189,5 +190,5 @@ module _ (s : State) (st : Steady s) (room : s .memory .registers .next < 4096) 
       by-test (leb (length bs) n)
       (λ t. let c = leb-true (length bs) n t in
       rw (e₁, e₂, e₃, t, le-ltb n (length bs) c, le-ltb (length image) k₃ (omega arith), le-ltb (length image - k₃) (length bs) (omega arith), ← is)
-      (initialized to l n bs c (subst Bytewise (sym is) (part-bytes image k₃ (length bs) bytes))))
+      (initialized to l n bs c (subst AreBytes (sym is) (part-bytes image k₃ (length bs) bytes))))
       (λ t. let c = leb-false (length bs) n t in rw (e₁, e₂, e₃, t, lt-ltb n (length bs) c) exceeds)

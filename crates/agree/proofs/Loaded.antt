@@ -17,10 +17,10 @@ use Rattle.decode.proofs.Items.{within-limits, instruction-within, function-wit
 use Rattle.decode.proofs.Used.{places-used, labels-used, functions-used, instruction-used, function-used, label-used}
 use Rattle.decode.proofs.Accepted.{loaded-accepted}
 use Rattle.decode.proofs.Constants.{constants-shown, extents-inside}
-use Rattle.agree.specs.Seen.{Bytewise}
 use Rattle.agree.proofs.Follows.{Follows}
+use Rattle.image.specs.Limits.{AreBytes}
 
-module _ (s : List ℕ) (bytes : Bytewise s) (P : Program) (e : ℕ) (h : loaded s ≡ took P e) where
+module _ (s : List ℕ) (bytes : AreBytes s) (P : Program) (e : ℕ) (h : loaded s ≡ took P e) where
   constant-bytes : T (all areBytes (P .constants))
   unfolding accepted
   constant-bytes =

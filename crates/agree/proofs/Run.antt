@@ -18,9 +18,10 @@ use Rattle.instruction.specs.declared.step.Progress.the-variants.{Next, Ended, 
 use Rattle.step.specs.Items.{Items}
 use Rattle.step.specs.Step.{steppedOf}
 use Rattle.run.specs.Run.{Running, following, after, ranOf}
-use Rattle.agree.specs.Seen.{Bytewise, Runs, seen, Agrees}
+use Rattle.agree.specs.Seen.{Runs, seen, Agrees}
 use Rattle.agree.specs.Turns.{ranState, ranTurn}
 use Rattle.agree.proofs.Step.{FollowsItems, step-agrees}
+use Rattle.image.specs.Limits.{AreBytes}
 
 -- a run, as a turn
 abbrev gone : Ran Memory → Turn Memory
@@ -41,10 +42,10 @@ module _ (before : Registers) (t : State) (done : ℕ) (a : Code.Stepped) (x : A
   then-kept (Ended m v) g r s = g .kept .0
   then-kept (Refused n) g r s = rw (g .kept) (r .sound)
 
-  then-bytes : (p : Progress) → Agrees t p (λ m. following m a) x → Runs t → ((u : State) → Runs u → Bytewise (on u .store)) → Bytewise (after (t .memory .registers) done p a on .store)
+  then-bytes : (p : Progress) → Agrees t p (λ m. following m a) x → Runs t → ((u : State) → Runs u → AreBytes (on u .store)) → AreBytes (after (t .memory .registers) done p a on .store)
   then-bytes (Next m) g r s = s (following m a) (g .kept)
   then-bytes (Ended m v) g r s = g .kept .1
-  then-bytes (Refused n) g r s = subst (λ (u : State). Bytewise (u .memory .store)) (sym (g .kept)) (r .bytes)
+  then-bytes (Refused n) g r s = subst (λ (u : State). AreBytes (u .memory .store)) (sym (g .kept)) (r .bytes)
 
 module _ (before : Registers) (i : Items) (P : Program) (f : FollowsItems P i) where
   pub ran-agrees : (left done : ℕ) (t : State) → Runs t → ranTurn before (ranOf i left done t) ≡ gone (runFrom believed P left done (seen t))
@@ -62,7 +63,7 @@ module _ (before : Registers) (i : Items) (P : Program) (f : FollowsItems P i) w
       then-kept before t done (steppedOf i t) (step believed P (seen t)) (ranOf i left (done + 1)) (runFrom believed P left (done + 1)) (ran-agrees left (done + 1)) (steppedOf i t .answer)
       (step-agrees t r i P f) r (ran-kept left (done + 1))
 
-  pub ran-bytes : (left done : ℕ) (t : State) → Runs t → Bytewise (ranOf i left done t .store)
+  pub ran-bytes : (left done : ℕ) (t : State) → Runs t → AreBytes (ranOf i left done t .store)
   unfolding ranOf
   ran-bytes zero done t r = r .bytes
   ran-bytes (suc left) done t r =

@@ -45,13 +45,14 @@ use Rattle.eval.specs.Loaded.{itemsOf}
 use Rattle.eval.specs.Entry.{Entering, steppedFrom, staying}
 use Rattle.eval.specs.Start.{isValue, valueAt, wantedOf, startRefusal, startLoaded, startEntered}
 use Rattle.eval.specs.declared.entry.Entered.the-variants as entered
-use Rattle.agree.specs.Seen.{Bytewise, seen}
+use Rattle.agree.specs.Seen.{seen}
 use Rattle.agree.specs.Turns.{enteredReply, enteredState, enteredTurn}
 use Rattle.agree.proofs.Steady.{tables-sound, runs}
 use Rattle.agree.proofs.Step.{FollowsItems}
 use Rattle.agree.proofs.Loaded.{loaded-follows}
 use Rattle.agree.proofs.Call.{function-in, place-in}
 use Rattle.agree.proofs.Entries.{is-true, loaded-end, asked}
+use Rattle.image.specs.Limits.{AreBytes}
 
 -- ---- "15 a Char that is no scalar value"
 
@@ -150,12 +151,12 @@ unfolding changes
 start-turn t (start-refused n) = refl
 start-turn t (start-went after vs so v r l f) = ap (λ (b : Bool). turn done (record { memory = view after; running = b; place = after .registers .next; vars = variablesIn vs })) (eq-eqb _ 1 r)
 
-start-sound : (t : State) → soundOf t ≡ true → Bytewise (t .memory .store) → {w : Code.Stepped} {b : Answer (Machine Memory)} → StartAgrees (t .memory) (t .variables) w b
+start-sound : (t : State) → soundOf t ≡ true → AreBytes (t .memory .store) → {w : Code.Stepped} {b : Answer (Machine Memory)} → StartAgrees (t .memory) (t .variables) w b
     → soundOf (enteredState (t .memory .registers) (steppedFrom w)) ≡ true
 start-sound t so bytes (start-refused n) = so
 start-sound t so bytes (start-went after vs st v r l f) = runs after vs st v r l (f bytes) .sound
 
-start-bytes-kept : (t : State) → Bytewise (t .memory .store) → {w : Code.Stepped} {b : Answer (Machine Memory)} → StartAgrees (t .memory) (t .variables) w b → Bytewise (w .store)
+start-bytes-kept : (t : State) → AreBytes (t .memory .store) → {w : Code.Stepped} {b : Answer (Machine Memory)} → StartAgrees (t .memory) (t .variables) w b → AreBytes (w .store)
 start-bytes-kept t bytes (start-refused n) = bytes
 start-bytes-kept t bytes (start-went after vs st v r l f) = f bytes
 
@@ -167,7 +168,7 @@ start-stays : (t : State) {w : Code.Stepped} {b : Answer (Machine Memory)} → S
 start-stays t (start-refused n) k e = refl
 start-stays t (start-went after vs st v r l f) k e = absurd (let z : _≡_ {A = ℕ} 0 1 = cc in omega arith)
 
-module _ (t : State) (so : soundOf t ≡ true) (bytes : Bytewise (t .memory .store)) (s : List ℕ) (whole : Bytewise s) (P : Program) (e : ℕ) (h : loaded s ≡ took P e)
+module _ (t : State) (so : soundOf t ≡ true) (bytes : AreBytes (t .memory .store)) (s : List ℕ) (whole : AreBytes s) (P : Program) (e : ℕ) (h : loaded s ≡ took P e)
     (n : ℕ) (context : Value) (gs : List Value) (fine : T (given context)) (all-fine : T (all given gs)) where
   abbrev m : Registers
   m = t .memory .registers
@@ -190,18 +191,18 @@ module _ (t : State) (so : soundOf t ≡ true) (bytes : Bytewise (t .memory .sto
 
   -- the same turn, and after it a sound state whose store is made of bytes, the one before it where it is refused
   abbrev Goal : Type 0
-  Goal = (enteredTurn m (answerBy number) ≡ changes (seen t) done asked-start) × (soundOf (enteredState m (answerBy number)) ≡ true) × Bytewise (answerBy number .store) × Stays t (answerBy number)
+  Goal = (enteredTurn m (answerBy number) ≡ changes (seen t) done asked-start) × (soundOf (enteredState m (answerBy number)) ≡ true) × AreBytes (answerBy number .store) × Stays t (answerBy number)
 
   refused-by : (k : ℕ) → (k ≡ 0 → ⊥) → number ≡ k → asked-start ≡ refused k → Goal
   unfolding changes
   refused-by k z e d =
       let there : enteredTurn m (answerBy k) ≡ turn (refusal k) (seen t) = rw (ne-eqb k 0 z) refl in
       let kept : soundOf (enteredState m (answerBy k)) ≡ true = rw (ne-eqb k 0 z) so in
-      let same-bytes : Bytewise (answerBy k .store) = rw (ne-eqb k 0 z) bytes in
+      let same-bytes : AreBytes (answerBy k .store) = rw (ne-eqb k 0 z) bytes in
       let stays : Stays t (answerBy k) = rw (ne-eqb k 0 z) (λ j d. refl) in (
         ap (λ j. enteredTurn m (answerBy j)) e ∙ there ∙ sym (ap (changes (seen t) done) d),
         ap (λ j. soundOf (enteredState m (answerBy j))) e ∙ kept,
-        subst (λ j. Bytewise (answerBy j .store)) (sym e) same-bytes,
+        subst (λ j. AreBytes (answerBy j .store)) (sym e) same-bytes,
         subst (λ j. Stays t (answerBy j)) (sym e) stays,
       )
 
@@ -281,7 +282,7 @@ module _ (t : State) (so : soundOf t ≡ true) (bytes : Bytewise (t .memory .sto
               ap (λ j. enteredTurn m (answerBy j)) zero-number ∙ start-turn t a
                   ∙ ap (λ (b : Bool). changes (seen t) done (start believed P n context gs (record { memory = view (t .memory); running = b; place = m .next; vars = variablesIn (t .variables) }))) (sym idle),
               ap (λ j. soundOf (enteredState m (answerBy j))) zero-number ∙ start-sound t so bytes a,
-              subst (λ j. Bytewise (answerBy j .store)) (sym zero-number) (start-bytes-kept t bytes a),
+              subst (λ j. AreBytes (answerBy j .store)) (sym zero-number) (start-bytes-kept t bytes a),
               subst (λ j. Stays t (answerBy j)) (sym zero-number) (start-stays t a),
             )
 
@@ -302,7 +303,7 @@ module _ (t : State) (so : soundOf t ≡ true) (bytes : Bytewise (t .memory .sto
   unfolding startEntered startLoaded
   start-kept = rw (loaded-end s P e h, so) (joined .1)
 
-  pub start-bytes : Bytewise (startEntered s n lent (tagsOf gs) (bitsOf gs) t .store)
+  pub start-bytes : AreBytes (startEntered s n lent (tagsOf gs) (bitsOf gs) t .store)
   unfolding startEntered startLoaded
   start-bytes = rw (loaded-end s P e h, so) (joined .2)
 

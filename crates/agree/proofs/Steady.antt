@@ -10,8 +10,9 @@ use Rattle.memory.specs.Tables.{Tables, registers, State, state, memoryOk, regi
 use Rattle.memory.proofs.Laws.{both-true}
 use Rattle.memory.proofs.Every.{every-at, every-all}
 use Rattle.memory.proofs.Facts.{Sound, sound-of, sound-test}
-use Rattle.agree.specs.Seen.{Bytewise, Runs}
+use Rattle.agree.specs.Seen.{Runs}
 use Rattle.instruction.proofs.Values.{Variables}
+use Rattle.image.specs.Limits.{AreBytes}
 
 -- the facts of a state that runs
 pub record Steady (s : State) : Type 0 where
@@ -20,7 +21,7 @@ pub record Steady (s : State) : Type 0 where
   pub variables : Variables (s .variables)
   pub running : s .memory .registers .running ≡ 1
   pub place : s .memory .registers .next ≤ 4096
-  pub bytes : Bytewise (s .memory .store)
+  pub bytes : AreBytes (s .memory .store)
 
 and-true : {a b : Bool} → a ≡ true → b ≡ true → (a && b) ≡ true
 and-true e d = rw (e, d)
@@ -57,7 +58,7 @@ unfolding soundOf
 state-sound t vars so v r = and-true (sound-test t so) (and-true (eq-eqb _ 512 (v .counted)) (and-true r (every-all 256 (variableOk vars) (v .each))))
 
 pub runs : (t : Tables) (vars : List ℕ) → Sound t → Variables vars → t .registers .running ≡ 1 → t .registers .next ≤ 4096
-    → Bytewise (t .store) → Runs (state t vars)
+    → AreBytes (t .store) → Runs (state t vars)
 runs t vars so v r l b = record { sound = state-sound t vars so v (running-ok _ _ _ r l); running = r; bytes = b }
 
 pub rests : (t : Tables) (vars : List ℕ) → Sound t → Variables vars → t .registers .running ≡ 0 → t .registers .depth ≡ 1 → t .registers .next ≤ 4096 → soundOf (state t vars) ≡ true

@@ -15,8 +15,9 @@ use Rattle.machine.specs.Sound.{all, areBytes, bytesIn, sound}
 use Rattle.machine.proofs.Sound.{sound-held}
 use Rattle.machine.proofs.SoundMemory.{later-same, sounds-kept}
 use Rattle.machine.proofs.Values.{Keeps, Bytes}
-use Rattle.agree.specs.Seen.{Bytewise, seen}
+use Rattle.agree.specs.Seen.{seen}
 use Rattle.agree.proofs.Bytes.{part-bytes, are-bytes}
+use Rattle.image.specs.Limits.{AreBytes}
 
 is-yes : {b : Bool} → b ≡ true → T b
 is-yes e = rw e tt
@@ -31,7 +32,7 @@ unfolding tab all
 all-tab f zero g h = tt
 all-tab f (suc n) g h = all-join f (tab n g) (g n ∷ []) (all-tab f n g h) (yes-and (f (g n)) true (h n) tt)
 
-module _ (s : State) (h : soundOf s ≡ true) (bytes : Bytewise (s .memory .store)) where
+module _ (s : State) (h : soundOf s ≡ true) (bytes : AreBytes (s .memory .store)) where
   allocation-bytes : (k : ℕ) → T (areBytes (bytesOf (s .memory .bounds) (s .memory .store) k))
   allocation-bytes k =
       let b = s .memory .bounds in

@@ -16,6 +16,7 @@ use Rattle.machine.specs.Machine.{Machine, Stepped, went, ended}
 use Rattle.instruction.specs.declared.variables.Found.{Found}
 use Rattle.instruction.specs.declared.step.Progress.{Progress}
 use Rattle.instruction.specs.declared.step.Progress.the-variants.{Next, Ended, Refused}
+use Rattle.image.specs.Limits.{AreBytes}
 
 -- the memory by its view, and the rest of the machine beside it
 abbrev pub seen : State → Machine Memory
@@ -36,20 +37,16 @@ outcome (Next m) after = ok (went (seen (after m)))
 outcome (Ended m v) after = ok (ended (returnedIn v) (seen (after m)))
 outcome (Refused n) after = refused n
 
--- every element is a byte
-abbrev pub Bytewise : List ℕ → Type 0
-Bytewise l = (k : ℕ) → getD l k 0 < 256
-
 -- a state in which a step is defined: sound, running, and its store made of bytes
 pub record Runs (s : State) : Type 0 where
   pub sound : soundOf s ≡ true
   pub running : s .memory .registers .running ≡ 1
-  pub bytes : Bytewise (s .memory .store)
+  pub bytes : AreBytes (s .memory .store)
 
 -- the state after is sound again and its store made of bytes, and it runs unless it has ended; "A refusal leaves state and lent buffers untouched"
 abbrev pub Kept : (before : State) → Progress → (after : Registers → State) → Type 0
 Kept s (Next m) after = Runs (after m)
-Kept s (Ended m v) after = (soundOf (after m) ≡ true) × Bytewise (after m .memory .store)
+Kept s (Ended m v) after = (soundOf (after m) ≡ true) × AreBytes (after m .memory .store)
 Kept s (Refused n) after = after (s .memory .registers) ≡ s
 
 -- the answer and the tables after it are the believed machine's answer, and sound

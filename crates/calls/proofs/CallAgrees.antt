@@ -28,9 +28,10 @@ use Rattle.calls.specs.Code.{arrived, unchanged, calledIn, calledOf}
 use Rattle.calls.specs.declared.fields.CallFields.{CallFields}
 use Rattle.calls.specs.declared.fields.Callee.{Callee}
 use Rattle.calls.proofs.Rooms.{call-room-given}
-use Rattle.calls.proofs.SlotsAgree.{Bytes, pointed}
+use Rattle.calls.proofs.SlotsAgree.{pointed}
 use Rattle.calls.proofs.EnterAgrees.{callRoom, EnterMade, enter-refused, enter-made}
 use Rattle.calls.proofs.VariablesAgree.{Alike, same-refusal, same-values, word, VariableFits, slots-pointed, Calling, believedRest, CalleeRead, FunctionFits, CallRead, CallFits, rest-alike}
+use Rattle.image.specs.Limits.{AreBytes}
 
 -- ---- the believed Call, its memory first and its variables then
 
@@ -69,7 +70,7 @@ grouped {A} {M} {B} {R} (ok a) b c d e k = slots (b a)
 -- "A refusal leaves state and lent buffers untouched"; else the tables after are sound, run, and show the believed machine's state
 pub data CallAgrees (t : Tables) (vars : List ℕ) : Stepped → Answer (Machine.Stepped Memory) → Type 0 where
   call-refused : (n : ℕ) → CallAgrees t vars (unchanged t vars n) (refused n)
-  call-went : (after : Tables) (vs : List ℕ) → Sound after → Variables vs → after .registers .running ≡ 1 → after .registers .next ≤ 4096 → (Bytes (t .store) → Bytes (after .store))
+  call-went : (after : Tables) (vs : List ℕ) → Sound after → Variables vs → after .registers .running ≡ 1 → after .registers .next ≤ 4096 → (AreBytes (t .store) → AreBytes (after .store))
       → CallAgrees t vars
       (stepped (progress.Next (after .registers)) (after .store) (after .frames) (after .bounds) (after .pointers) vs)
       (ok (went (record { memory = view after; running = true; place = after .registers .next; vars = variablesIn vs })))

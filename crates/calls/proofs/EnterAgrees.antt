@@ -24,7 +24,8 @@ use Rattle.calls.specs.Room.{frameRoomOf, roomInOf, callRoomOf, slotsRoo
 use Rattle.calls.specs.Code.{entered, slotsMadeOf, enteredOf}
 use Rattle.calls.specs.declared.fields.Callee.{Callee}
 use Rattle.calls.proofs.Rooms.{not-first, chosen-zero}
-use Rattle.calls.proofs.SlotsAgree.{SlotsRead, Bytes, pointed, slotsNumber, slots-refused, slots-made}
+use Rattle.calls.proofs.SlotsAgree.{SlotsRead, pointed, slotsNumber, slots-refused, slots-made}
+use Rattle.image.specs.Limits.{AreBytes}
 
 -- ---- the frame
 
@@ -81,7 +82,7 @@ pub record EnterMade (s : List ℕ) (to : ℕ) (f : Callee) (xs : List Slot) (t 
   pub sound : Sound after
   pub seen : (vs : Vars) → (pushFrame (view t) (backIn (t .registers .next) to) >>= λ m. makeSlots believed xs m vs) ≡ ok (view after, pointed xs (t .registers .pointers) vs)
   pub running : after .registers .running ≡ t .registers .running
-  pub bytes : Bytes (t .store) → Bytes (after .store)
+  pub bytes : AreBytes (t .store) → AreBytes (after .store)
 
 abbrev pub roomIn : (image : List ℕ) → Callee → Tables → ℕ
 roomIn s f t = roomInOf (t .registers) s f (length (t .store)) (t .frames) (t .bounds) (length (t .pointers))

@@ -28,6 +28,7 @@ use Rattle.calls.specs.Room.{slotRoomOf, slotsRoomOf}
 use Rattle.calls.specs.Code.{entered, slotsMadeOf}
 use Rattle.calls.proofs.Rooms.{slot-fits, chosen-zero}
 use Rattle.calls.proofs.Enters.{made-none}
+use Rattle.image.specs.Limits.{AreBytes}
 
 -- ---- one slot
 
@@ -104,9 +105,6 @@ slotsNumber s at xs t = slotsRoomOf s (length xs) at (live t) (bound t (live t))
 abbrev pub withPointers : Registers → ℕ → Registers
 withPointers m n = registers (m .running) (m .next) (m .counter) (m .depth) n
 
-abbrev pub Bytes : List ℕ → Type 0
-Bytes l = (k : ℕ) → getD l k 0 < 256
-
 -- what slots with room make: tables that are sound again and are the believed memory, and registers that differ in the number of pointers
 pub record SlotsMade (s : List ℕ) (at : ℕ) (xs : List Slot) (t : Tables) : Type 0 where
   pub after : Tables
@@ -114,7 +112,7 @@ pub record SlotsMade (s : List ℕ) (at : ℕ) (xs : List Slot) (t : Tables) : T
   pub sound : Sound after
   pub seen : (vs : Vars) → makeSlots believed xs (view t) vs ≡ ok (view after, pointed xs (t .registers .pointers) vs)
   pub kept : after .registers ≡ withPointers (t .registers) (t .registers .pointers + length xs)
-  pub bytes : Bytes (t .store) → Bytes (after .store)
+  pub bytes : AreBytes (t .store) → AreBytes (after .store)
 
 zero-byte : (l : List ℕ) (i k : ℕ) → getD l k 0 < 256 → getD (set l i 0) k 0 < 256
 zero-byte l i k h =
@@ -124,7 +122,7 @@ zero-byte l i k h =
     (λ v. let e = ap (λ r. getD r k 0) (set-out l i 0 (ltb-false i (length l) v)) in omega arith))
     (λ w. let e = getD-set-other l i k 0 0 (eqb-false k i w) in omega arith)
 
-zeroed-bytes : (l : List ℕ) (from : ℕ) → Bytes l → (n : ℕ) → Bytes (zeroed l from n)
+zeroed-bytes : (l : List ℕ) (from : ℕ) → AreBytes l → (n : ℕ) → AreBytes (zeroed l from n)
 unfolding zeroed
 zeroed-bytes l from b zero k = b k
 zeroed-bytes l from b (suc n) k = zero-byte (zeroed l from n) (from + n) k (zeroed-bytes l from b n k)

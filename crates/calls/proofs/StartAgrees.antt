@@ -34,11 +34,12 @@ use Rattle.calls.specs.Code.{entered, slotsMadeOf, unchanged}
 use Rattle.calls.specs.Begin.{valuesSet, flaggedSet, startedSet, variablesSet, ranAt, begunIn, begunOf}
 use Rattle.calls.specs.declared.fields.Callee.{Callee}
 use Rattle.calls.proofs.Rooms.{room-given}
-use Rattle.calls.proofs.SlotsAgree.{Bytes, pointed, slotsNumber, slots-refused, slots-made}
+use Rattle.calls.proofs.SlotsAgree.{pointed, slotsNumber, slots-refused, slots-made}
 use Rattle.calls.proofs.EnterAgrees.{roomIn, room-in}
 use Rattle.calls.proofs.VariablesAgree.{ParametersRead, ParametersFit, slots-pointed, CalleeRead, FunctionFits}
 use Rattle.calls.proofs.CallAgrees.{moved-sound, moved-seen, entry-at}
 use Rattle.calls.proofs.CallAgrees as Call
+use Rattle.image.specs.Limits.{AreBytes}
 
 -- a good table that shows these variables
 pub record Shows (vars : List ℕ) (vs : Vars) : Type 0 where
@@ -140,7 +141,7 @@ module _ (s : List ℕ) (f : Callee) (F : Function) (callee : CalleeRead s f F) 
 -- "A refusal leaves state and lent buffers untouched"; else the tables after are sound, run, and show the believed machine's state
 pub data StartAgrees (t : Tables) (vars : List ℕ) : Stepped → Answer (Machine Memory) → Type 0 where
   start-refused : (n : ℕ) → StartAgrees t vars (unchanged t vars n) (refused n)
-  start-went : (after : Tables) (vs : List ℕ) → Sound after → Variables vs → after .registers .running ≡ 1 → after .registers .next ≤ 4096 → (Bytes (t .store) → Bytes (after .store))
+  start-went : (after : Tables) (vs : List ℕ) → Sound after → Variables vs → after .registers .running ≡ 1 → after .registers .next ≤ 4096 → (AreBytes (t .store) → AreBytes (after .store))
       → StartAgrees t vars
       (stepped (progress.Next (after .registers)) (after .store) (after .frames) (after .bounds) (after .pointers) vs)
       (ok (record { memory = view after; running = true; place = after .registers .next; vars = variablesIn vs }))

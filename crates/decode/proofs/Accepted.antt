@@ -13,8 +13,7 @@ use Rattle.image.specs.Program.{Program, Operand, variable, literal, Declared, 
 use Rattle.machine.specs.Machine.{asVariable}
 use Rattle.machine.specs.Sound.{all, areBytes}
 use Rattle.machine.specs.Accepted.{goodOperand, goodOptional, goodTo, both, goodInstruction, accepted}
-use Rattle.image.specs.Limits.{Each, IfAny, IsByte, IsVariable, IsOperand, IsDeclared, IsInstruction, countsOf}
-use Rattle.image.proofs.Standing.{AreBytes}
+use Rattle.image.specs.Limits.{Each, IfAny, IsByte, IsVariable, IsOperand, IsDeclared, IsInstruction, countsOf, AreBytes}
 use Rattle.decode.proofs.Items.{flat-each, within-limits, code-within}
 
 and-true : {a b : Bool} → a ≡ true → b ≡ true → a && b ≡ true

@@ -14,8 +14,9 @@ use Rattle.memory.specs.View.{tab, part, constantsIn}
 use Rattle.memory.proofs.Tab.{length-tab, getD-tab}
 use Rattle.memory.proofs.Access.{Extents}
 use Rattle.decode.specs.Extents.{extent, extentsAt, placesOf, extentsOf}
-use Rattle.image.proofs.Standing.{AreBytes, raw-took}
+use Rattle.image.proofs.Standing.{raw-took}
 use Rattle.decode.proofs.Items.{counted, constants-room, constant-stands}
+use Rattle.image.specs.Limits.{AreBytes}
 
 -- ---- two words each
 

@@ -14,8 +14,7 @@ use Rattle.image.specs.Written as W
 use Rattle.loader.specs.declared.load.Loaded.{Loaded}
 use Rattle.loader.specs.Tables.{ats, loadedOf, loadedFrom}
 use Rattle.loader.proofs.Turn.{then-took}
-use Rattle.image.specs.Limits.{Each, total, IsInstruction, IsFunctionItem, countsOf, WithinLimits}
-use Rattle.image.proofs.Standing.{AreBytes}
+use Rattle.image.specs.Limits.{Each, total, IsInstruction, IsFunctionItem, countsOf, WithinLimits, AreBytes}
 use Rattle.image.proofs.Takes.{each-append}
 use Rattle.image.proofs.Writes.{function-spells, instruction-spells, loaded-within}
 use Rattle.image.specs.Standing.{Stands}

@@ -11,9 +11,9 @@ use Rattle.image.specs.Fields.{atMost, bytes, listOf}
 use Rattle.image.specs.Program.{Instruction, noFunction, functionAt, flatten, code, placeOf}
 use Rattle.image.specs.Image.{Counts, Image, constants, function, instruction, blocks, programOf}
 use Rattle.image.specs.Written as W
-use Rattle.image.specs.Limits.{Each}
+use Rattle.image.specs.Limits.{Each, AreBytes}
 use Rattle.image.proofs.Parts.{same-value, same-place}
-use Rattle.image.proofs.Standing.{AreBytes, forward, stand-forward}
+use Rattle.image.proofs.Standing.{forward, stand-forward}
 use Rattle.image.proofs.Spells.{Spells, alone, upTo-spells, bytes-spells}
 use Rattle.image.proofs.Writes.{Counted, header-spells, function-spells, instruction-spells}
 use Rattle.image.proofs.Takes.{each-append}

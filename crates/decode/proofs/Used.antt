@@ -10,9 +10,9 @@ use Rattle.image.specs.Program.{Program, Instruction, functionAt, code, placeOf
 use Rattle.image.specs.Image.{Image, image, loaded}
 use Rattle.image.specs.Written as W
 use Rattle.image.specs.Standing.{Stands}
-use Rattle.image.proofs.Standing.{AreBytes}
 use Rattle.loader.specs.Tables.{ats, joined, starts, loadedOf, loadedFrom}
 use Rattle.decode.proofs.Items.{counted, within-limits, code-within, instruction-stands, function-stands, label-leads}
+use Rattle.image.specs.Limits.{AreBytes}
 
 -- the tables' sizes
 record Sized (g : Got Image) : Type 0 where

@@ -21,11 +21,11 @@ use Rattle.image.specs.Image.{Counts, types, versions, flags, items, fla
 use Rattle.image.specs.Program.{Program, Operand, literal, Slot, Branch, Declared, Item, Function, Instruction, Jump, Switch, Assign, ConstantAddress, Call, Return, IntCmp′, FloatCmp′, Add, Sub, Mul, Div, Mod, FDiv, Not, Negate, Offset, Initialize, Write, Read, Copy, Drop}
 use Rattle.image.specs.Written.{Piece, num, raw, each, counted, maybe, lengthAnd, flagNumber, itemNumber, typeNumber, intCmpNumber, floatCmpNumber, spelt, pieces, written}
 use Rattle.image.specs.Written as W
-use Rattle.image.specs.Limits.{Each, UpTo, IfAny, Flagged, IsByte, IsSize, IsU32, IsVariable, IsLabel, IsConstant, IsFunction, IsOperand, IsSlot, IsBranch, IsDeclared, IsInstruction, IsFunctionItem, countsOf, WithinLimits}
+use Rattle.image.specs.Limits.{Each, UpTo, IfAny, Flagged, IsByte, IsSize, IsU32, IsVariable, IsLabel, IsConstant, IsFunction, IsOperand, IsSlot, IsBranch, IsDeclared, IsInstruction, IsFunctionItem, countsOf, WithinLimits, AreBytes}
 use Rattle.image.proofs.Takes.{Takes, each-append, then-takes, give-takes, same-pieces, map-takes, two-takes, three-takes, four-takes, five-takes, number-takes, such-takes, below-takes, upTo-takes, known-takes, tabled-takes, optional-takes, many-takes, list-takes, bytes-takes, within-takes}
 use Rattle.image.specs.Standing.{Stand}
 use Rattle.image.proofs.Bytes.{last-byte, more-bytes, Held, held-less}
-use Rattle.image.proofs.Standing.{AreBytes, Writable, stand-split, spelt-stands}
+use Rattle.image.proofs.Standing.{Writable, stand-split, spelt-stands}
 use Rattle.image.proofs.Writes.{headed, loaded-writes, loaded-within}
 use Rattle.image.proofs.Parts.{same-place}
 use Rattle.image.proofs.Plain.{plain, plainParts, loaded-plain}

@@ -17,11 +17,11 @@ use Rattle.image.specs.Fields.{such, below, upTo, known, meant, optional
 use Rattle.image.specs.Fields as Fields
 use Rattle.image.specs.Written.{Piece, num, raw, each, counted, maybe, lengthAnd}
 use Rattle.image.specs.Written as W
-use Rattle.image.specs.Limits.{Each, UpTo, IfAny, IsByte, total}
+use Rattle.image.specs.Limits.{Each, UpTo, IfAny, IsByte, total, AreBytes}
 use Rattle.image.specs.Standing.{Stand}
 use Rattle.image.proofs.Round.{spelt}
 use Rattle.image.proofs.Parts.{parts, picked, same-value, same-place, two-right, three-right, four-right, five-right, Every, every-at, meant-some}
-use Rattle.image.proofs.Standing.{AreBytes, raw-took, stand-append}
+use Rattle.image.proofs.Standing.{raw-took, stand-append}
 
 -- Where the pieces x stand, and p takes a value after them, there its own pieces stand, x the first of them, and it is as it should be.
 pub record Spells {A : Type 0} (s : List ℕ) (x : List Piece) (p : Field A) (w : A → List Piece) (ok : A → Type 0) : Type 0 where

@@ -14,14 +14,10 @@ use Rattle.image.specs.Parse.{Got, took, refused}
 use Rattle.image.specs.Number.{groups, number, bytesOf}
 use Rattle.image.specs.Fields as Fields
 use Rattle.image.specs.Written.{Piece, num, raw, spelt}
-use Rattle.image.specs.Limits.{Each, IsByte}
+use Rattle.image.specs.Limits.{Each, IsByte, AreBytes}
 use Rattle.image.specs.Standing.{Stand}
 use Rattle.image.proofs.Parts.{never, picked, same-value, same-place}
 use Rattle.image.proofs.Round.{written-reads, read-spells}
-
--- every element is a byte
-abbrev pub AreBytes : List ℕ → Type 0
-AreBytes s = (k : ℕ) → getD s k 0 < 256
 
 -- ---- a number ends after it begins
 

@@ -19,10 +19,10 @@ use Rattle.image.specs.Image.{Counts, types, versions, flags, items, fla
 use Rattle.image.specs.Program.{Program, Operand, literal, Item, Jump, Switch, Assign, ConstantAddress, Call, Return, IntCmp′, FloatCmp′, Add, Sub, Mul, Div, Mod, FDiv, Not, Negate, Offset, Initialize, Write, Read, Copy, Drop}
 use Rattle.image.specs.Written.{Piece, num, flagNumber, itemNumber, typeNumber, intCmpNumber, floatCmpNumber, pieces, written, spelt}
 use Rattle.image.specs.Written as W
-use Rattle.image.specs.Limits.{Each, Flagged, IsByte, IsSize, IsU32, IsVariable, IsLabel, IsConstant, IsFunction, IsOperand, IsSlot, IsBranch, IsDeclared, IsInstruction, IsFunctionItem, countsOf, WithinLimits}
+use Rattle.image.specs.Limits.{Each, Flagged, IsByte, IsSize, IsU32, IsVariable, IsLabel, IsConstant, IsFunction, IsOperand, IsSlot, IsBranch, IsDeclared, IsInstruction, IsFunctionItem, countsOf, WithinLimits, AreBytes}
 use Rattle.image.proofs.Spells.{Spells, alone, itself, next-spells, last-spells, one-spells, two-spells, three-spells, four-spells, five-spells, number-spells, such-spells, below-spells, upTo-spells, known-spells, tabled-spells, optional-spells, many-spells, list-spells, bytes-spells, within-spells}
 use Rattle.image.proofs.Parts.{Every, parts, picked, same-place}
-use Rattle.image.proofs.Standing.{AreBytes, stand-bytes}
+use Rattle.image.proofs.Standing.{stand-bytes}
 use Rattle.image.proofs.Plain.{plain, plainParts, loaded-plain}
 
 module _ {s : List ℕ} (bs : AreBytes s) where

@@ -4,7 +4,7 @@ use mathlib.Core.Bool.{Bool, true}
 use mathlib.Core.List.{List, [], _∷_}
 use mathlib.Core.Option.{Option, none, some}
 use mathlib.Core.Path.{_≡_}
-use lib.ListN.{length}
+use lib.ListN.{length, getD}
 use Rattle.value.specs.Tags.{holds}
 use Rattle.image.specs.Image.{Counts, mostParameters}
 use Rattle.image.specs.Program.{Program, Operand, literal, Slot, Branch, Declared, Item, Function, Instruction, Jump, Switch, Assign, ConstantAddress, Call, Return, IntCmp′, FloatCmp′, Add, Sub, Mul, Div, Mod, FDiv, Not, Negate, Offset, Initialize, Write, Read, Copy, Drop}
@@ -26,6 +26,10 @@ IfAny ok (some a) = ok a
 
 abbrev pub IsByte : ℕ → Type 0
 IsByte b = b < 256
+
+-- a list of bytes, told place by place
+abbrev pub AreBytes : List ℕ → Type 0
+AreBytes s = (k : ℕ) → IsByte (getD s k 0)
 
 -- a running total
 unfoldable pub total : {A : Type 0} → List (List A) → ℕ

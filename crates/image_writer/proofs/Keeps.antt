@@ -20,11 +20,10 @@ use Rattle.image.specs.declared.field.Step.{Step}
 use Rattle.image.specs.Fields.{raw}
 use Rattle.image.proofs.Round.{written-reads, read-spells}
 use Rattle.image_writer.specs.Answer.{Stored, placeAfter, Kept, Passed}
-use Rattle.image.specs.Limits.{Each}
+use Rattle.image.specs.Limits.{Each, AreBytes}
 use Rattle.image_writer.specs.Past.{endOf, among, numberAt, pastNumber, pastPair, pastRaw, times, pastOptional, pastList, pastBytes, pastFields, pastInstruction, pastParts, pastWhole}
 use Rattle.image_writer.specs.declared.writer.Pass.{Pass}
 use Rattle.image.proofs.Parts.{parts, same-place}
-use Rattle.image.proofs.Standing.{AreBytes}
 use Rattle.image.proofs.Spells.{alone, number-spells}
 use Rattle.image_writer.proofs.Stores.{has-room, of-number, number-length}
 

@@ -23,11 +23,11 @@ use Rattle.image_writer.specs.declared.writer.Outcome.{Outcome}
 use Rattle.image_writer.specs.declared.writer.Outcome.the-variants.{Done, Refused, Short}
 use Rattle.image.specs.declared.number.Written.{Written}
 use Rattle.image.proofs.Parts.{picked}
-use Rattle.image.proofs.Standing.{AreBytes}
 use Rattle.image.proofs.Plain.{plain, loaded-plain}
 use Rattle.image.proofs.Writes.{loaded-writes}
 use Rattle.image.proofs.Loads.{loaded-end}
 use Rattle.image_writer.proofs.Reaches.{plain-reaches}
+use Rattle.image.specs.Limits.{AreBytes}
 
 -- ---- what the loader's last place says of the definition's answer
 

@@ -17,7 +17,7 @@ use Rattle.machine.specs.Asks.{Ask, turn, toAllocate, toWrite, toRead, toStart,
 use Rattle.instruction.specs.declared.variables.Found.{Found}
 use Rattle.eval.specs.Entry.{Entering}
 use Rattle.eval.specs.Start.{startEntered}
-use Rattle.agree.specs.Seen.{Bytewise, seen}
+use Rattle.agree.specs.Seen.{seen}
 use Rattle.agree.specs.Turns.{enteredReply, enteredState}
 use Rattle.agree.proofs.Entries.{step-enters, step-kept, step-bytes, run-enters, run-kept, run-bytes}
 use Rattle.agree.proofs.Host.{allocate-enters, allocate-kept, allocate-bytes, write-enters, write-kept, write-bytes, read-enters, list-enters}
@@ -25,6 +25,7 @@ use Rattle.agree.proofs.Start.{start-enters, start-kept, start-bytes}
 use Rattle.promise.specs.Calls.{callAllocate, callWrite, callRead, callStart, callStep, callRun, callList, Good, room, tagsOf, bitsOf, noScalar, allocating, writing, reading, starting, misgiven, stepping, running, listing}
 use Rattle.promise.specs.Promised.{Answers, EntriesAnswer}
 use Rattle.promise.proofs.Lent.{spare-unused, no-values, equal-lengths, bad-length, bad-values, bad-given}
+use Rattle.image.specs.Limits.{AreBytes}
 
 module _ (t : State) (good : Good t) where
   pub allocate-answers : (n : ℕ) → Answers (callAllocate n) (toAllocate n) t
@@ -33,7 +34,7 @@ module _ (t : State) (good : Good t) where
     good = record { sound = allocate-kept t (good .sound) (good .bytes) n; bytes = allocate-bytes t (good .sound) (good .bytes) n };
   }
 
-  pub write-answers : (p : ℕ) (bs : List ℕ) → Bytewise bs → Answers (callWrite p bs) (toWrite p bs) t
+  pub write-answers : (p : ℕ) (bs : List ℕ) → AreBytes bs → Answers (callWrite p bs) (toWrite p bs) t
   write-answers p bs f = record {
     same = write-enters t (good .sound) (good .bytes) p bs;
     good = record { sound = write-kept t (good .sound) (good .bytes) p bs; bytes = write-bytes t (good .sound) (good .bytes) p bs f };
@@ -43,7 +44,7 @@ module _ (t : State) (good : Good t) where
   list-answers l f a o = record { same = list-enters t (good .sound) (good .bytes) l f a o; good = good }
 
   -- with an image that was loaded
-  module _ (s : List ℕ) (whole : Bytewise s) (P : Program) (e : ℕ) (h : loaded s ≡ took P e) where
+  module _ (s : List ℕ) (whole : AreBytes s) (P : Program) (e : ℕ) (h : loaded s ≡ took P e) where
     pub read-answers : (p : ℕ) (buffer : List ℕ) → Answers (callRead s p buffer) (toRead P p (length buffer)) t
     read-answers p buffer = record { same = read-enters t (good .sound) (good .bytes) s whole P e h p buffer; good = good }
 

@@ -24,13 +24,14 @@ use Rattle.machine.specs.Asks.{Ask, Reply, Turn}
 use Rattle.machine.specs.Entries.{answers, onwards}
 use Rattle.machine.proofs.Demand.{replies-are-told}
 use Rattle.decode.proofs.Accepted.{loaded-accepted}
-use Rattle.agree.specs.Seen.{seen, Bytewise}
+use Rattle.agree.specs.Seen.{seen}
 use Rattle.agree.proofs.Bytes.{are-bytes}
 use Rattle.promise.specs.Calls.{Call, call, Heard, Good, Asks, allocating, writing, reading, starting, misgiven, stepping, running, listing, AllAsk, no-more, and-then, Tells, asked, passed, heardBy, leftBy}
 use Rattle.promise.specs.Promised.{RepliesAreAnswers, StatesFollow, Begun, begun, FreshFollows, CodeRepliesAreTold}
 use Rattle.promise.proofs.Refused.{images-refused}
 use Rattle.promise.proofs.Lent.{bad-given}
 use Rattle.promise.proofs.Answers.{entries-answer}
+use Rattle.image.specs.Limits.{AreBytes}
 
 pub replies-are-answers : RepliesAreAnswers
 unfolding heardBy answers
@@ -70,7 +71,7 @@ fresh-begun u (begun s f b p v ls lf lb lp lv) =
     let w = fresh-view s f b p v ls lf lb lp lv in
     let r = ready-test 1 0 _ _ _ _ (record { store = ls; frames = lf; bounds = lb; pointers = lp; deep = omega arith; given = omega arith }) in
     let clear : freshOf s f b p v .store ≡ replicate (length s) 0 = ap (λ (o : All). o .store) (fresh-made s f b p v r lv) in
-    (machine-same (w .memory) (fun-ext (w .unset)), record { sound = w .sound; bytes = subst Bytewise (sym clear) (zeros (length s)) })
+    (machine-same (w .memory) (fun-ext (w .unset)), record { sound = w .sound; bytes = subst AreBytes (sym clear) (zeros (length s)) })
 
 pub fresh-follows : FreshFollows
 fresh-follows as′ t after =

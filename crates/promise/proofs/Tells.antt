@@ -23,9 +23,9 @@ use Rattle.machine.specs.Asks.{Ask, toStart}
 use Rattle.instruction.specs.Variables.{found}
 use Rattle.instruction.specs.declared.variables.Found.{Found}
 use Rattle.eval.specs.Start.{ofKind, isValue, valueAt}
-use Rattle.agree.specs.Seen.{Bytewise}
 use Rattle.promise.specs.Calls.{Call, callAllocate, callWrite, callRead, callStart, callStep, callRun, callList, Lent, tagsOf, bitsOf, areValues, Asks, allocating, writing, reading, starting, misgiven, stepping, running, listing, Refuses, refuses-read, refuses-start, refuses-step, refuses-run, Tells, asked, passed}
 use Rattle.promise.specs.Promised.{CallsTell, AnyCalls}
+use Rattle.image.specs.Limits.{AreBytes}
 
 -- ---- values from tags and bits
 
@@ -89,7 +89,7 @@ pub data Told (c : Call) : Type 0 where
   asks : (a : Ask) → Asks c a → Told c
   refuses : (n : ℕ) → Refuses c n → Told c
 
-module _ (s : List ℕ) (f : ℕ) (context : Found) (ts bs : List ℕ) (b : Bytewise s) (P : Program) (e : ℕ) (h : loaded s ≡ took P e) where
+module _ (s : List ℕ) (f : ℕ) (context : Found) (ts bs : List ℕ) (b : AreBytes s) (P : Program) (e : ℕ) (h : loaded s ≡ took P e) where
   started : Told (callStart s f context ts bs)
   unfolding all
   started =

@@ -45,7 +45,7 @@ use Rattle.eval.specs.Start.{startEntered}
 use Rattle.run.specs.declared.Ran.the-variants as ran
 use Rattle.eval.specs.declared.entry.Entered.the-variants as entered
 use Rattle.eval.specs.declared.entry.Readout.the-variants as readout
-use Rattle.agree.specs.Seen.{Bytewise, Runs, Kept}
+use Rattle.agree.specs.Seen.{Runs, Kept}
 use Rattle.agree.specs.Turns.{ranReply, ranState, enteredReply, enteredRegisters, enteredState, allocatedReply, allocatedRegisters, allocatedState, writtenReply, writtenState, readReply, listedReply}
 use Rattle.agree.proofs.Access.{written-left}
 use Rattle.agree.proofs.Initialize.{allots}
@@ -56,6 +56,7 @@ use Rattle.agree.proofs.Step.{step-agrees}
 use Rattle.promise.specs.Calls.{Good, allocating, writing, reading, starting, misgiven, stepping, running, listing, tagsOf, bitsOf, noScalar}
 use Rattle.promise.specs.Promised.{RefusalsChangeNothing, BuffersStay, SlicesStay}
 use Rattle.promise.proofs.Lent.{spare-unused, no-values, equal-lengths, bad-length, bad-values, bad-given}
+use Rattle.image.specs.Limits.{AreBytes}
 
 module _ (t : State) (good : Good t) where
   abbrev m : Registers
@@ -101,7 +102,7 @@ module _ (t : State) (good : Good t) where
       go a (Ended r v) rest d = let z : _≡_ {A = ℕ} 0 1 = cc in omega arith
       go a (Refused j) rest d = let z : _≡_ {A = ℕ} 0 1 = cc in omega arith
 
-  module _ (s : List ℕ) (whole : Bytewise s) (P : Program) (e : ℕ) (h : loaded s ≡ took P e) where
+  module _ (s : List ℕ) (whole : AreBytes s) (P : Program) (e : ℕ) (h : loaded s ≡ took P e) where
     step-untouched : (n : ℕ) → enteredReply (stepEntered s t .answer) ≡ refusal n → enteredState m (stepEntered s t) ≡ t
     unfolding stepEntered stepLoaded
     step-untouched n = rw (loaded-end s P e h, good .sound) (go (eqb (m .running) 1) refl)

@@ -20,8 +20,9 @@ use Rattle.instruction.specs.declared.variables.Found.{Found}
 use Rattle.eval.specs.Host.{hostAllocated, hostWritten, hostListed}
 use Rattle.eval.specs.Entry.{runEntered, stepEntered, readEntered}
 use Rattle.eval.specs.Start.{isValue, valueAt, startEntered}
-use Rattle.agree.specs.Seen.{seen, Bytewise}
+use Rattle.agree.specs.Seen.{seen}
 use Rattle.agree.specs.Turns.{ranReply, ranState, enteredReply, enteredState, allocatedReply, allocatedState, writtenReply, writtenState, readReply, listedReply}
+use Rattle.image.specs.Limits.{AreBytes}
 
 -- ---- a call
 
@@ -60,7 +61,7 @@ shown h = turn (h .reply) (seen (h .left))
 -- what a host may go on with: a sound state, its store made of bytes
 pub record Good (t : State) : Type 0 where
   pub sound : soundOf t ≡ true
-  pub bytes : Bytewise (t .memory .store)
+  pub bytes : AreBytes (t .memory .store)
 
 -- ---- what is asked by it
 
@@ -87,14 +88,14 @@ areValues context ts bs = isValue (context .tag) (context .bits) && every (lengt
 -- and where they are no values the ask is one with a Char that is no scalar value: 15, in its place
 pub data Asks : Call → Ask → Type 0 where
   allocating : {n : ℕ} → Asks (callAllocate n) (toAllocate n)
-  writing : {p : ℕ} {bs : List ℕ} → Bytewise bs → Asks (callWrite p bs) (toWrite p bs)
-  reading : {s : List ℕ} {P : Program} {e p : ℕ} {buffer : List ℕ} → Bytewise s → loaded s ≡ took P e → Asks (callRead s p buffer) (toRead P p (length buffer))
-  starting : {s : List ℕ} {P : Program} {e f : ℕ} {context : Value} {gs : List Value} (spare : List ℕ) → Bytewise s → loaded s ≡ took P e → T (all given (context ∷ gs))
+  writing : {p : ℕ} {bs : List ℕ} → AreBytes bs → Asks (callWrite p bs) (toWrite p bs)
+  reading : {s : List ℕ} {P : Program} {e p : ℕ} {buffer : List ℕ} → AreBytes s → loaded s ≡ took P e → Asks (callRead s p buffer) (toRead P p (length buffer))
+  starting : {s : List ℕ} {P : Program} {e f : ℕ} {context : Value} {gs : List Value} (spare : List ℕ) → AreBytes s → loaded s ≡ took P e → T (all given (context ∷ gs))
       → Asks (callStart s f (found (tag (context .kind)) (context .bits)) (tagsOf gs) (bitsOf gs ++ spare)) (toStart P f context gs)
-  misgiven : {s : List ℕ} {P : Program} {e f : ℕ} {context : Found} {ts bs : List ℕ} → Bytewise s → loaded s ≡ took P e → areValues context ts bs ≡ false
+  misgiven : {s : List ℕ} {P : Program} {e f : ℕ} {context : Found} {ts bs : List ℕ} → AreBytes s → loaded s ≡ took P e → areValues context ts bs ≡ false
       → Asks (callStart s f context ts bs) (toStart P f noScalar (replicate (length ts) noScalar))
-  stepping : {s : List ℕ} {P : Program} {e : ℕ} → Bytewise s → loaded s ≡ took P e → Asks (callStep s) (toStep P)
-  running : {s : List ℕ} {P : Program} {e budget : ℕ} → Bytewise s → loaded s ≡ took P e → Asks (callRun s budget) (toRun P budget)
+  stepping : {s : List ℕ} {P : Program} {e : ℕ} → AreBytes s → loaded s ≡ took P e → Asks (callStep s) (toStep P)
+  running : {s : List ℕ} {P : Program} {e budget : ℕ} → AreBytes s → loaded s ≡ took P e → Asks (callRun s budget) (toRun P budget)
   listing : {l f a o : List ℕ} → Asks (callList l f a o) (toList (room l f a o))
 
 -- a call whose image is refused asks nothing
@@ -107,11 +108,11 @@ pub data Refuses : Call → (number : ℕ) → Type 0 where
 -- what is lent as bytes is bytes, as the code's types say
 abbrev pub Lent : Call → Type 0
 Lent (callAllocate n) = Unit
-Lent (callWrite p bs) = Bytewise bs
-Lent (callRead s p buffer) = Bytewise s
-Lent (callStart s f context ts bs) = Bytewise s
-Lent (callStep s) = Bytewise s
-Lent (callRun s budget) = Bytewise s
+Lent (callWrite p bs) = AreBytes bs
+Lent (callRead s p buffer) = AreBytes s
+Lent (callStart s f context ts bs) = AreBytes s
+Lent (callStep s) = AreBytes s
+Lent (callRun s budget) = AreBytes s
 Lent (callList l f a o) = Unit
 
 abbrev pub AllLent : List Call → Type 0

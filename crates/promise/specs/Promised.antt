@@ -18,8 +18,9 @@ use Rattle.machine.specs.History.{ofConstant, ofPlace, madeAt, StandsFor, Ended
 use Rattle.machine.specs.Demand.{tells, stateAfter, Right, Why}
 use Rattle.eval.specs.Host.{hostListed}
 use Rattle.eval.specs.Entry.{readEntered}
-use Rattle.agree.specs.Seen.{seen, Bytewise}
+use Rattle.agree.specs.Seen.{seen}
 use Rattle.promise.specs.Calls.{Call, callRead, callWrite, callList, call, heard, shown, Good, room, Asks, Refuses, AllLent, AllAsk, Tells, heardBy, leftBy}
+use Rattle.image.specs.Limits.{AreBytes}
 
 -- ---- one call
 
@@ -99,7 +100,7 @@ CodeRepliesAreTold = (t : State) → Begun t → (cs : List Call) (as′ : List 
 
 -- an image that was loaded, and its program
 pub record Image (s : List ℕ) (P : Program) : Type 0 where
-  pub bytes : Bytewise s
+  pub bytes : AreBytes s
   pub end : ℕ
   pub taken : loaded s ≡ took P end
 
@@ -139,7 +140,7 @@ CodeExtentsApart = (as′ : List Ask) (t : State) → After as′ t → (j k : �
 
 -- "an accepted write through one allocation changes no byte that is granted through another"
 abbrev pub CodeWritesStayApart : Type 0
-CodeWritesStayApart = (as′ : List Ask) (t : State) → After as′ t → (p q f j o f′ j′ o′ : ℕ) (bs : List ℕ) → Bytewise bs → call (callWrite p bs) t .reply ≡ done
+CodeWritesStayApart = (as′ : List Ask) (t : State) → After as′ t → (p q f j o f′ j′ o′ : ℕ) (bs : List ℕ) → AreBytes bs → call (callWrite p bs) t .reply ≡ done
     → StandsFor (tells as′) p (ofPlace f j o) → StandsFor (tells as′) q (ofPlace f′ j′ o′) → (f ≢ f′) ⊎ (j ≢ j′)
     → (s : List ℕ) (P : Program) → Image s P → (buffer : List ℕ) → readOf (call (callWrite p bs) t .left) s q buffer ≡ readOf t s q buffer
 
@@ -153,4 +154,4 @@ CodeListsAsTold = (as′ : List Ask) (t : State) → After as′ t → (l f a o 
 abbrev pub CodeRefusesEverAfter : Type 0
 CodeRefusesEverAfter = (as′ bs′ cs′ : List Ask) (t : State) → After ((as′ ++ bs′) ++ cs′) t → (p f j o : ℕ) → StandsFor (tells as′) p (ofPlace f j o) → Ended (tells (as′ ++ bs′)) f
     → ((s : List ℕ) (P : Program) → Image s P → (buffer : List ℕ) → readOf t s p buffer ≡ refusal frameGone)
-    × ((bs : List ℕ) → Bytewise bs → call (callWrite p bs) t .reply ≡ refusal frameGone)
+    × ((bs : List ℕ) → AreBytes bs → call (callWrite p bs) t .reply ≡ refusal frameGone)
