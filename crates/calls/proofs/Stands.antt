@@ -12,7 +12,7 @@ use Rattle.value.specs.Value.{tag}
 use Rattle.image.specs.Program.{Operand, variable, literal, Slot, Declared, Program, Function, functionAt, placeOf, Call}
 use Rattle.image.specs.Written.{Piece, num}
 use Rattle.image.specs.Written as W
-use Rattle.decode.specs.Pieces.{Stand}
+use Rattle.image.specs.Standing.{Stand}
 use Rattle.memory.specs.Tables.{Tables}
 use Rattle.memory.specs.View.{view, variablesIn}
 use Rattle.memory.proofs.Facts.{Sound}
