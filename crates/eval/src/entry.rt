@@ -17,9 +17,9 @@ use loader::load::load;
 use memory::Outcome;
 use memory::Registers;
 use memory::read_bytes;
-use memory::sound;
 use run::Ran;
 use run::run_steps;
+use soundness::sound;
 use value::refusal::IDLE;
 use value::refusal::NOT_SOUND;
 

@@ -2,13 +2,13 @@
 ghost use mathlib.Core.Path.{_≡_};
 ghost use Rattle.memory.specs.Tables.{tables, state, out, both, listing};
 ghost use Rattle.eval.specs.Host.{hostAllocated, hostWritten, hostListed};
+use live_list::live_list;
 use memory::Given;
 use memory::Outcome;
 use memory::Registers;
 use memory::allocate;
-use memory::live_list;
-use memory::sound;
 use memory::write_bytes;
+use soundness::sound;
 use value::refusal::NOT_SOUND;
 
 // A new allocation in the top frame, and its pointer's number.

@@ -16,7 +16,7 @@ use instruction::variables::Found;
 use loader::load::Loaded;
 use loader::load::load;
 use memory::Registers;
-use memory::sound;
+use soundness::sound;
 use value::IrValue;
 use value::Made;
 use value::refusal::NO_FUNCTION;

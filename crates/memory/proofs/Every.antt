@@ -1,15 +1,13 @@
--- `every` as a loop meets it, one number after another, and as facts about each number; `filled` likewise.
+-- `every` as a loop meets it, one number after another, and as facts about each number.
 use mathlib.Core.Path.{_≡_, refl, ap, _∙_}
-use mathlib.Core.List.{List}
 use mathlib.Core.Bool.{Bool, true, false, _&&_}
 use Prim.Native.Nat.{ℕ, zero, suc, _+_, _<_, _≤_}
 use native.Mathlib.Numerals.{add-one}
 use native.Mathlib.Nat.{not-suc-le-zero}
 use native.Mathlib.Omega.{arith}
-use lib.ListN.{set}
 use lib.Dec.{ltb}
 use borrow.Author.Tests.{ltb-true, ltb-false}
-use Rattle.memory.specs.Tables.{every, filled, columns}
+use Rattle.memory.specs.Tables.{every}
 use Rattle.memory.proofs.Laws.{both-true}
 
 pub by-test : {P : Type 0} (b : Bool) → (b ≡ true → P) → (b ≡ false → P) → P
@@ -53,14 +51,3 @@ every-not (suc n) f i h e =
 pub every-all : (n : ℕ) (f : ℕ → Bool) → ((i : ℕ) → i < n → f i ≡ true) → every n f ≡ true
 every-all zero f h = every-none f
 every-all (suc n) f h = rw add-one at (every-more n f (every-all n f (λ i k. h i (omega arith))) (h n (omega arith)))
-
-pub filled-none : (f : ℕ → ℕ) (l : List ℕ) → l ≡ filled 0 f l
-unfolding filled
-filled-none f l = refl
-
-pub filled-more : (n : ℕ) (f : ℕ → ℕ) (l l′ : List ℕ) (v : ℕ) → l′ ≡ filled n f l → v ≡ f n → set l′ n v ≡ filled (n + 1) f l
-unfolding filled
-filled-more n f l l′ v e g = rw (add-one, e, g)
-
-pub columns-same : {a a′ b b′ c c′ d d′ : List ℕ} → a ≡ a′ → b ≡ b′ → c ≡ c′ → d ≡ d′ → columns a b c d ≡ columns a′ b′ c′ d′
-columns-same p q r s = cc

@@ -2,7 +2,6 @@ pub mod Access
 pub mod Allocating
 pub mod Beginning
 pub mod Bytes
-pub mod Moving
 pub mod Copied
 pub mod Counts
 pub mod Every

@@ -210,6 +210,13 @@ standingOf d fr q =
     pick (leb d (q .index)) (place.Refused frameGone)
     (pick (eqb (getD fr (q .index * 4) 0) (q .id)) (rankedOf fr (q .index) (q .allocation)) (place.Refused frameGone))
 
+-- the same for any depth and any frames: 10 first
+unfoldable pub standsOf : (depth : ℕ) → List ℕ → PointerRecord → Place
+standsOf d fr q =
+    pick (eqb (length fr) 260)
+    (pick (ltb 64 d) (place.Refused notSound) (standingOf d fr q))
+    (place.Refused notSound)
+
 abbrev pub fromStore : Place → Source
 fromStore (place.At at) = source.Local at
 fromStore (place.Refused n) = source.Refused n

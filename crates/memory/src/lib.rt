@@ -10,15 +10,10 @@
 //
 // What lies above the depth and the counts is stale: it means nothing, and is left as it stood.
 ghost use mathlib.Core.Path.{_≡_};
-ghost use mathlib.Core.Bool.{true, false};
 ghost use Prim.Native.Nat.{_+_, _*_, _<_, _≤_};
-ghost use lib.ListN.{getD, set, length, take, drop, replicate};
+ghost use lib.ListN.{length, take, drop, replicate};
 ghost use lib.Seq.{paste};
-ghost use Rattle.memory.specs.Tables.{tables, readyOf, both, all, out, pointerAt, pointerSet, freshOf, pushedOf, poppedOf, zeroed, roomOf, made, allocatedOf, alignedOf, withinOf, rankedOf, standingOf, localOf, readAccessOf, writeAccessOf, writtenOf, constantAccessOf, constantOf, readOf, offsetOf, addressOf, recordOf, columns, filledOf, roomyOf, listing, listedOf, state, every, idAbove, frameOk, boundOk, pointerOk, pointersOk, storedOk, variableOk, registersOk, endsOk, allocationsOk, memoryOk, soundOf};
-ghost use Rattle.value.specs.Value.{isScalar};
-
-pub mod copying;
-
+ghost use Rattle.memory.specs.Tables.{tables, readyOf, both, all, out, pointerAt, pointerSet, freshOf, pushedOf, poppedOf, zeroed, roomOf, made, allocatedOf, alignedOf, withinOf, rankedOf, standingOf, standsOf, localOf, readAccessOf, writeAccessOf, writtenOf, constantAccessOf, constantOf, readOf, offsetOf, addressOf};
 use value::refusal::ALLOCATIONS_FULL;
 use value::refusal::BEYOND_LENGTH;
 use value::refusal::BYTES_FULL;
@@ -32,7 +27,6 @@ use value::refusal::NOT_GIVEN_OUT;
 use value::refusal::NOT_SOUND;
 use value::refusal::OFFSET_TOO_LARGE;
 use value::refusal::POINTERS_FULL;
-use value::refusal::SHORT_TABLE;
 use value::refusal::THROUGH_CONSTANT;
 
 // The greatest depth, id counter, numbers of allocations, bytes and pointers, place, and number of variables.
@@ -428,6 +422,19 @@ fn standing(d: usize, q: PointerRecord, frames: &[u64]) -> Place
     ranked(f, q.allocation, frames)
 }
 
+// The same for any depth and any frames: 10 first.
+pub fn stands(d: usize, q: PointerRecord, frames: &[u64]) -> Place
+    ensures { λ r. ⌜ r ≡ standsOf d (now (frames .entry)) q ⌝ }
+{
+    if frames.len() != FRAMES_LENGTH {
+        return Place::Refused(NOT_SOUND);
+    }
+    if MAX_DEPTH < d {
+        return Place::Refused(NOT_SOUND);
+    }
+    standing(d, q, frames)
+}
+
 // A local access: 27, 28, 29, 30.
 fn local(d: usize, q: PointerRecord, size: u64, frames: &[u64], bounds: &[u64]) -> Source
     requires { ⌜ (d ≤ 64) × (length (now frames) ≡ 260) × (length (now bounds) ≡ 513) ⌝ }
@@ -655,348 +662,4 @@ pub fn constant_address(m: Registers, k: u64, pointers: &mut [u64]) -> Given
     let mut t = m;
     t.pointers = n + 1;
     Given::Made(n, t)
-}
-
-// One record of the live list, for a pointer: a constant is not live, and the other fields are 0.
-fn live_record(d: usize, q: PointerRecord, frames: &[u64]) -> LiveRecord
-    requires { ⌜ (d ≤ 64) × (length (now frames) ≡ 260) ⌝ }
-    ensures { λ r. ⌜ r ≡ recordOf d (now (frames .entry)) q ⌝ }
-{
-    if q.kind != LOCAL {
-        return LiveRecord {
-            live: 0,
-            frame: 0,
-            allocation: 0,
-            offset: 0,
-        };
-    }
-    let live = match standing(d, q, frames) {
-        Place::At(_) => 1,
-        Place::Refused(_) => 0,
-    };
-    LiveRecord {
-        live: live,
-        frame: q.index,
-        allocation: q.allocation,
-        offset: q.offset,
-    }
-}
-
-// The first `n` records, one in each slice.
-fn fill_list(
-    d: usize,
-    n: usize,
-    frames: &[u64],
-    pointers: &[u64],
-    live: &mut [u64],
-    frame: &mut [u64],
-    allocation: &mut [u64],
-    offset: &mut [u64],
-)
-    requires { ⌜ (d ≤ 64) × (n ≤ 4096) × (length (now frames) ≡ 260) × (length (now pointers) ≡ 20480) × (n ≤ length (now live)) × (n ≤ length (now frame)) × (n ≤ length (now allocation)) × (n ≤ length (now offset)) ⌝ }
-    ensures { λ r. ⌜ columns (now (live .exit)) (now (frame .exit)) (now (allocation .exit)) (now (offset .exit)) ≡ filledOf d n (now (frames .entry)) (now (pointers .entry)) (now (live .entry)) (now (frame .entry)) (now (allocation .entry)) (now (offset .entry)) ⌝ }
-{
-    let mut i = 0;
-    while i < n {
-        let r = live_record(d, pointer_at(pointers, i), frames);
-        live[i] = r.live;
-        frame[i] = r.frame;
-        allocation[i] = r.allocation;
-        offset[i] = r.offset;
-        i += 1;
-    }
-}
-
-// The four slices have a place for each of n pointers.
-fn roomy(n: usize, live: usize, frame: usize, allocation: usize, offset: usize) -> bool
-    ensures { λ r. ⌜ r ≡ roomyOf n live frame allocation offset ⌝ }
-{
-    if live < n {
-        return false;
-    }
-    if frame < n {
-        return false;
-    }
-    if allocation < n {
-        return false;
-    }
-    n <= offset
-}
-
-// The live list: for each pointer number, rising, whether it is live, its frame's index, its allocation and its offset.
-pub fn live_list(
-    m: Registers,
-    store: &[u8],
-    frames: &[u64],
-    bounds: &[u64],
-    pointers: &[u64],
-    live: &mut [u64],
-    frame: &mut [u64],
-    allocation: &mut [u64],
-    offset: &mut [u64],
-) -> Outcome
-    ensures { λ r. ⌜ listing r (now (live .exit)) (now (frame .exit)) (now (allocation .exit)) (now (offset .exit)) ≡ listedOf (tables m (now (store .entry)) (now (frames .entry)) (now (bounds .entry)) (now (pointers .entry))) (now (live .entry)) (now (frame .entry)) (now (allocation .entry)) (now (offset .entry)) ⌝ }
-{
-    let d = m.depth;
-    let n = m.pointers;
-    if !ready(m, store.len(), frames.len(), bounds.len(), pointers.len()) {
-        return Outcome::Refused(NOT_SOUND);
-    }
-    if !roomy(n, live.len(), frame.len(), allocation.len(), offset.len()) {
-        return Outcome::Refused(SHORT_TABLE);
-    }
-    fill_list(d, n, frames, pointers, live, frame, allocation, offset);
-    Outcome::Done
-}
-
-// The id that a frame's lies below: that of the frame above, and above the top the counter.
-fn id_above(i: usize, d: usize, counter: u64, frames: &[u64]) -> u64
-    requires { ⌜ (i < d) × (d ≤ 64) × (length (now frames) ≡ 260) ⌝ }
-    ensures { λ r. ⌜ r ≡ idAbove (now (frames .entry)) d counter i ⌝ }
-{
-    if i + 1 < d {
-        return frames[i * 4 + 4];
-    }
-    counter
-}
-
-fn frame_sound(i: usize, d: usize, counter: u64, frames: &[u64]) -> bool
-    requires { ⌜ (i < d) × (d ≤ 64) × (length (now frames) ≡ 260) ⌝ }
-    ensures { λ r. ⌜ r ≡ frameOk (now (frames .entry)) d counter i ⌝ }
-{
-    let next = id_above(i, d, counter, frames);
-    if next <= frames[i * 4] {
-        return false;
-    }
-    if MAX_PLACE < frames[i * 4 + 1] {
-        return false;
-    }
-    if MAX_VARIABLES < frames[i * 4 + 2] {
-        return false;
-    }
-    frames[i * 4 + 3] <= frames[i * 4 + 7]
-}
-
-fn frames_sound(d: usize, counter: u64, frames: &[u64]) -> bool
-    requires { ⌜ (d ≤ 64) × (length (now frames) ≡ 260) ⌝ }
-    ensures { λ r. ⌜ r ≡ every d (frameOk (now (frames .entry)) d counter) ⌝ }
-{
-    let mut i = 0;
-    while i < d {
-        if !frame_sound(i, d, counter, frames) {
-            return false;
-        }
-        i += 1;
-    }
-    true
-}
-
-fn bounds_sound(n: usize, bounds: &[u64]) -> bool
-    requires { ⌜ (n ≤ 512) × (length (now bounds) ≡ 513) ⌝ }
-    ensures { λ r. ⌜ r ≡ every n (boundOk (now (bounds .entry))) ⌝ }
-{
-    let mut k = 0;
-    while k < n {
-        if bounds[k + 1] < bounds[k] {
-            return false;
-        }
-        k += 1;
-    }
-    true
-}
-
-fn pointer_sound(q: PointerRecord) -> bool
-    ensures { λ r. ⌜ r ≡ pointerOk q ⌝ }
-{
-    if q.kind == LOCAL {
-        return true;
-    }
-    if q.kind != CONSTANT {
-        return false;
-    }
-    if q.id != 0 {
-        return false;
-    }
-    if q.allocation != 0 {
-        return false;
-    }
-    q.offset == 0
-}
-
-fn pointers_sound(n: usize, pointers: &[u64]) -> bool
-    requires { ⌜ (n ≤ 4096) × (length (now pointers) ≡ 20480) ⌝ }
-    ensures { λ r. ⌜ r ≡ every n (pointersOk (now (pointers .entry))) ⌝ }
-{
-    let mut p = 0;
-    while p < n {
-        if !pointer_sound(pointer_at(pointers, p)) {
-            return false;
-        }
-        p += 1;
-    }
-    true
-}
-
-// Char is 0..D7FF or E000..10FFFF hex.
-fn scalar(bits: u64) -> bool
-    ensures { λ r. ⌜ r ≡ isScalar bits ⌝ }
-{
-    if bits <= 0xd7ff {
-        return true;
-    }
-    if bits < 0xe000 {
-        return false;
-    }
-    bits <= 0x10ffff
-}
-
-// The greatest bits of each tag: unset, Bool, U8, U16, U32, U64, I8, I16, I32, I64, F32, F64, Char, Asn, Pointer.
-const GREATEST: [u64; 15] = [
-    0,
-    1,
-    255,
-    65535,
-    4294967295,
-    18446744073709551615,
-    255,
-    65535,
-    4294967295,
-    18446744073709551615,
-    4294967295,
-    18446744073709551615,
-    4294967295,
-    4294967295,
-    18446744073709551615,
-];
-
-const CHAR_TAG: u64 = 12;
-
-// A value's tag and bits, or unset.
-fn variable_sound(tag: u64, bits: u64) -> bool
-    ensures { λ r. ⌜ r ≡ storedOk tag bits ⌝ }
-{
-    if 14 < tag {
-        return false;
-    }
-    let t = tag as usize;
-    if GREATEST[t] < bits {
-        return false;
-    }
-    if tag != CHAR_TAG {
-        return true;
-    }
-    scalar(bits)
-}
-
-fn variables_sound(variables: &[u64]) -> bool
-    requires { ⌜ length (now variables) ≡ 512 ⌝ }
-    ensures { λ r. ⌜ r ≡ every 256 (variableOk (now (variables .entry))) ⌝ }
-{
-    let mut x = 0;
-    while x < 256 {
-        if !variable_sound(variables[x * 2], variables[x * 2 + 1]) {
-            return false;
-        }
-        x += 1;
-    }
-    true
-}
-
-// Running or idle, the next place, and idle only at depth 1.
-fn registers_sound(running: u64, next: usize, depth: usize) -> bool
-    ensures { λ r. ⌜ r ≡ registersOk running next depth ⌝ }
-{
-    if MAX_PLACE < next as u64 {
-        return false;
-    }
-    if running == 1 {
-        return true;
-    }
-    if running != 0 {
-        return false;
-    }
-    depth == 1
-}
-
-// Frame 0 has id 0 and no allocation below it, and allocation 0 starts at the store's start.
-fn ends_sound(id: u64, first: u64, start: u64) -> bool
-    ensures { λ r. ⌜ r ≡ endsOk id first start ⌝ }
-{
-    if id != 0 {
-        return false;
-    }
-    if first != 0 {
-        return false;
-    }
-    start == 0
-}
-
-// The live allocations: at most 512, from start to start, and at most 32,768 bytes.
-fn allocations_sound(live: u64, bounds: &[u64]) -> bool
-    requires { ⌜ length (now bounds) ≡ 513 ⌝ }
-    ensures { λ r. ⌜ r ≡ allocationsOk live (now (bounds .entry)) ⌝ }
-{
-    if MAX_ALLOCATIONS < live {
-        return false;
-    }
-    let n = live as usize;
-    if !bounds_sound(n, bounds) {
-        return false;
-    }
-    bounds[n] <= MAX_BYTES
-}
-
-// The memory's part of a sound state.
-fn memory_sound(
-    m: Registers,
-    store: &[u8],
-    frames: &[u64],
-    bounds: &[u64],
-    pointers: &[u64],
-) -> bool
-    ensures { λ r. ⌜ r ≡ memoryOk (tables m (now (store .entry)) (now (frames .entry)) (now (bounds .entry)) (now (pointers .entry))) ⌝ }
-{
-    let d = m.depth;
-    if !ready(m, store.len(), frames.len(), bounds.len(), pointers.len()) {
-        return false;
-    }
-    if d == 0 {
-        return false;
-    }
-    if MAX_COUNTER < m.counter {
-        return false;
-    }
-    if !ends_sound(frames[0], frames[3], bounds[0]) {
-        return false;
-    }
-    if !frames_sound(d, m.counter, frames) {
-        return false;
-    }
-    if !allocations_sound(frames[d * 4 + 3], bounds) {
-        return false;
-    }
-    pointers_sound(m.pointers, pointers)
-}
-
-// The tables are those of a sound state. Each is walked once.
-pub fn sound(
-    m: Registers,
-    store: &[u8],
-    frames: &[u64],
-    bounds: &[u64],
-    pointers: &[u64],
-    variables: &[u64],
-) -> bool
-    ensures { λ r. ⌜ r ≡ soundOf (state (tables m (now (store .entry)) (now (frames .entry)) (now (bounds .entry)) (now (pointers .entry))) (now (variables .entry))) ⌝ }
-{
-    if !memory_sound(m, store, frames, bounds, pointers) {
-        return false;
-    }
-    if variables.len() != VARIABLES_LENGTH {
-        return false;
-    }
-    if !registers_sound(m.running, m.next, m.depth) {
-        return false;
-    }
-    variables_sound(variables)
 }

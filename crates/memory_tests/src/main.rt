@@ -506,7 +506,7 @@ fn sounds(
     pointers: &[u64],
     variables: &[u64],
 ) -> Tally {
-    if memory::sound(running(m, flag), store, frames, bounds, pointers, variables) {
+    if soundness::sound(running(m, flag), store, frames, bounds, pointers, variables) {
         return granted(begun(m), m);
     }
     begun(m)
@@ -524,7 +524,7 @@ fn list_short(
     let mut frame = [9u64; 4];
     let mut allocation = [9u64; 4];
     let mut offset = [9u64; 1];
-    let r = memory::live_list(
+    let r = live_list::live_list(
         m,
         store,
         frames,
@@ -551,7 +551,7 @@ fn list_long(
     let mut frame = [9u64; 4];
     let mut allocation = [9u64; 4];
     let mut offset = [9u64; 4];
-    let r = memory::live_list(
+    let r = live_list::live_list(
         m,
         store,
         frames,
