@@ -5,3 +5,4 @@ pub mod Through
 pub mod Whole
 pub mod Computed
 pub mod Values
+pub mod Short

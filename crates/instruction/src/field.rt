@@ -17,11 +17,27 @@ pub struct Operand {
     pub next: usize,
 }
 
+fn wide(x: u8) -> u64
+    ensures { λ r. ⌜ r ≡ x ⌝ }
+{
+    x as u64
+}
+
+// Most numbers are a byte below 128: these are read here, and the others group by group.
 pub fn read_field(image: &[u8], at: usize) -> Field
     ensures { λ r. ⌜ r ≡ fieldAt (now (image .entry)) at ⌝ }
 {
     if at == 0 {
         return Field { value: 0, next: 0 };
+    }
+    if at < image.len() {
+        let byte = wide(image[at]);
+        if byte < 128 {
+            return Field {
+                value: byte,
+                next: at + 1,
+            };
+        }
     }
     match read_number(image, at) {
         Number::Value(value, next) => Field { value, next },
