@@ -1,6 +1,6 @@
 """Writes entries.txt: sequences of entries that the Rust cannot show, answered by the reference machine alone (see oracle/README.md).
 
-Pauses and goings-on, a state moved to another image, refused images, starts of a running machine, Chars that are no scalar values,
+P11, pauses and goings-on, a state moved to another image, refused images, starts of a running machine, Chars that are no scalar values,
 live lists and written images with room and without.
 """
 
@@ -10,7 +10,7 @@ import random
 import image
 from image import ASSIGN, CONSTANT_ADDRESS, COPY, DROP, OFFSET, POINTER, READ, RETURN, WRITE
 from image_cases import P1
-from machine import SHORT_TABLE, U8, Machine, Refusal, prepared
+from machine import SHORT_TABLE, U8, U16, Machine, Refusal, prepared
 from maker import Maker
 from play import Teller, host, optional, value_of
 from sweep import BACK, LEFT, TO, simple
@@ -104,6 +104,14 @@ def sequences(seed, count):
         yield words
 
 
+def numbers():
+    """P11: 300 is AC 02; 80 00 in its place is refused with 2."""
+    good = simple([(RETURN, (U16, 300))], 0)
+    assert good.count("ac02") == 1
+    yield ["i" + good, "s0=14:0", "g1", "x100"]
+    yield ["i" + good.replace("ac02", "8000"), "s0=14:0", "g1", "x100"]
+
+
 def named():
     """Chars, idle and running machines, wrong functions and counts: each check before the ones that come later."""
     p1 = "i" + P1.hex()
@@ -128,7 +136,7 @@ def moved():
 
 
 def main():
-    records = [Play().record(words) for words in [*named(), *moved(), *sequences(11, 400)]]
+    records = [Play().record(words) for words in [*numbers(), *named(), *moved(), *sequences(11, 400)]]
     records = [record for record in records if len(record) < 4000]
     with open(os.path.join(os.path.dirname(os.path.abspath(__file__)), "entries.txt"), "w", encoding="ascii") as out:
         out.writelines(records)
