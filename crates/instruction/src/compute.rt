@@ -4,6 +4,16 @@ ghost use Rattle.value.specs.Tags.{intCmpAt, floatCmpAt};
 ghost use Rattle.value.specs.Ir.{valueOf, computed};
 ghost use Rattle.instruction.specs.Compute.{foundOf, foundAs, comparedInts, comparedFloats, operated, withSecond, binaryOf, altered, unaryOf};
 use crate::variables::Found;
+use comparing::compare::float_cmp;
+use comparing::compare::int_cmp;
+use comparing::compare::not;
+use operations::float::fdiv;
+use operations::integer::add;
+use operations::integer::div;
+use operations::integer::mul;
+use operations::integer::negate;
+use operations::integer::rem;
+use operations::integer::sub;
 use value::Computed;
 use value::FloatCmp;
 use value::FloatComparison;
@@ -32,7 +42,7 @@ pub fn int_compare(how: u64, a: IrValue, b: IrValue) -> Computed
     ensures { λ r. ⌜ r ≡ computed (comparedInts (intCmpAt how) (valueOf a) (valueOf b)) ⌝ }
 {
     match IntCmp::from_number(how) {
-        IntComparison::Is(cmp) => a.int_cmp(cmp, b),
+        IntComparison::Is(cmp) => int_cmp(cmp, a, b),
         IntComparison::Nothing => Computed::Refused(NO_INSTRUCTION),
     }
 }
@@ -42,7 +52,7 @@ pub fn float_compare(how: u64, a: IrValue, b: IrValue) -> Computed
     ensures { λ r. ⌜ r ≡ computed (comparedFloats (floatCmpAt how) (valueOf a) (valueOf b)) ⌝ }
 {
     match FloatCmp::from_number(how) {
-        FloatComparison::Is(cmp) => a.float_cmp(cmp, b),
+        FloatComparison::Is(cmp) => float_cmp(cmp, a, b),
         FloatComparison::Nothing => Computed::Refused(NO_INSTRUCTION),
     }
 }
@@ -54,12 +64,12 @@ pub fn operate(opcode: u64, how: u64, a: IrValue, b: IrValue) -> Computed
     match opcode {
         6 => int_compare(how, a, b),
         7 => float_compare(how, a, b),
-        8 => a.add(b),
-        9 => a.sub(b),
-        10 => a.mul(b),
-        11 => a.div(b),
-        12 => a.rem(b),
-        13 => a.fdiv(b),
+        8 => add(a, b),
+        9 => sub(a, b),
+        10 => mul(a, b),
+        11 => div(a, b),
+        12 => rem(a, b),
+        13 => fdiv(a, b),
         _ => Computed::Refused(NO_INSTRUCTION),
     }
 }
@@ -101,8 +111,8 @@ pub fn alter(opcode: u64, a: IrValue) -> Computed
     ensures { λ r. ⌜ r ≡ computed (altered opcode (valueOf a)) ⌝ }
 {
     match opcode {
-        14 => a.not(),
-        15 => a.negate(),
+        14 => not(a),
+        15 => negate(a),
         _ => Computed::Refused(NO_INSTRUCTION),
     }
 }

@@ -3,14 +3,9 @@ pub mod Tags
 pub mod Roundtrip
 pub mod LowFirst
 pub mod Leftover
-pub mod Comparing
+pub mod Switching
 pub mod Patterns
 pub mod Rounding
 pub mod Fields
-pub mod Divided
-pub mod Reals
 pub mod Cases
 pub mod Settled
-pub mod Widths
-pub mod Wholes
-pub mod Arithmetic

@@ -1,20 +1,16 @@
--- The code's comparisons, orders and tests, and the definitions'.
+-- The code's comparisons, and the definitions'.
 use Prim.Native.Nat.{ℕ}
 use mathlib.Core.Bool.{Bool, not}
 use mathlib.Core.Option.{Option, none, some}
 use lib.Dec.{eqb}
-use Rattle.value.specs.Answer.{Answer, ok, refused, need, pick}
+use Rattle.value.specs.Answer.{Answer, ok, refused, need}
 use Rattle.value.specs.Refusal.{wrongKinds}
-use Rattle.value.specs.Value.{Value, family, isUnsigned, isSigned, integer, same, bool}
+use Rattle.value.specs.Value.{Value, same, bool}
 use Rattle.value.specs.Value as Believed
 use Rattle.value.specs.declared.IntCmp as I
 use Rattle.value.specs.declared.FloatCmp as F
 use Rattle.value.specs.declared.IntComparison as Ic
 use Rattle.value.specs.declared.FloatComparison as Fc
-use Rattle.value.specs.declared.family.Order as O
-use Rattle.value.specs.declared.family.Test as T
-use Rattle.value.specs.declared.family.AsU64 as U
-use Rattle.value.specs.declared.family.AsI64 as S
 use Rattle.value.specs.declared.Switched as W
 use Rattle.value.specs.declared.Truth as B
 
@@ -66,27 +62,6 @@ intComparison (some c) = Ic.the-variants.Is (irIntCmp c)
 unfoldable pub floatComparison : Option Believed.FloatCmp → Fc.FloatComparison
 floatComparison none = Fc.the-variants.Nothing
 floatComparison (some c) = Fc.the-variants.Is (irFloatCmp c)
-
-unfoldable pub orderOf : O.Order → Believed.Order
-orderOf O.the-variants.Less = Believed.less
-orderOf O.the-variants.Equal = Believed.equal
-orderOf O.the-variants.Greater = Believed.greater
-orderOf O.the-variants.Unordered = Believed.unordered
-
-unfoldable pub testOf : T.Test → Believed.Test
-testOf T.the-variants.Eq = Believed.eq
-testOf T.the-variants.Ne = Believed.ne
-testOf T.the-variants.Lt = Believed.lt
-testOf T.the-variants.Le = Believed.le
-testOf T.the-variants.Gt = Believed.gt
-testOf T.the-variants.Ge = Believed.ge
-
--- the number of a value of the unsigned family, or of the signed
-unfoldable pub asUnsigned : Value → U.AsU64
-asUnsigned v = pick (isUnsigned (family (v .kind))) (U.the-variants.Is (v .bits)) U.the-variants.Other
-
-unfoldable pub asSigned : Value → S.AsI64
-asSigned v = pick (isSigned (family (v .kind))) (S.the-variants.Is (integer v)) S.the-variants.Other
 
 -- what Switch examines
 unfoldable pub switched : Answer ℕ → W.Switched

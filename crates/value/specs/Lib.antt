@@ -5,7 +5,5 @@ pub mod Value
 pub mod Tags
 pub mod Floats
 pub mod Ir
-pub mod Orders
 pub mod Compare
 pub mod Cases
-pub mod Kernel

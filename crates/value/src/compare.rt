@@ -1,12 +1,9 @@
-// Comparisons, Switch and Not.
+// The comparisons by their numbers, what Switch examines, and a Bool's own truth.
 ghost use mathlib.Core.Path.{_≡_};
-ghost use Rattle.value.specs.Answer.{ok};
-ghost use Rattle.value.specs.Value.{equality, unsignedOrder, signedOrder, floatOrder, compareInts, compareFloats, switchOn, notted};
-ghost use Rattle.value.specs.Value as Believed;
+ghost use Rattle.value.specs.Value.{switchOn};
 ghost use Rattle.value.specs.Tags.{intCmpAt, floatCmpAt};
-ghost use Rattle.value.specs.Ir.{valueOf, computed};
-ghost use Rattle.value.specs.Compare.{intCmpOf, floatCmpOf, intComparison, floatComparison, orderOf, testOf, switched, asBool, truthOf};
-use crate::Computed;
+ghost use Rattle.value.specs.Ir.{valueOf};
+ghost use Rattle.value.specs.Compare.{intComparison, floatComparison, switched, asBool, truthOf};
 use crate::FloatCmp;
 use crate::FloatComparison;
 use crate::IntCmp;
@@ -14,12 +11,6 @@ use crate::IntComparison;
 use crate::IrValue;
 use crate::Switched;
 use crate::Truth;
-use crate::family;
-use crate::family::AsI64;
-use crate::family::AsU64;
-use crate::family::Order;
-use crate::family::Test;
-use crate::float;
 use crate::refusal::WRONG_KINDS;
 
 impl IntCmp {
@@ -59,36 +50,6 @@ impl FloatCmp {
 }
 
 impl IrValue {
-    pub fn int_cmp(self, cmp: IntCmp, other: IrValue) -> Computed
-        ensures { λ r. ⌜ r ≡ computed (compareInts (intCmpOf cmp) (valueOf self) (valueOf other)) ⌝ }
-    {
-        match cmp {
-            IntCmp::Eq => equal(Test::Eq, self, other),
-            IntCmp::Ne => equal(Test::Ne, self, other),
-            IntCmp::ULt => unsigned_order(Test::Lt, self, other),
-            IntCmp::ULe => unsigned_order(Test::Le, self, other),
-            IntCmp::UGt => unsigned_order(Test::Gt, self, other),
-            IntCmp::UGe => unsigned_order(Test::Ge, self, other),
-            IntCmp::SLt => signed_order(Test::Lt, self, other),
-            IntCmp::SLe => signed_order(Test::Le, self, other),
-            IntCmp::SGt => signed_order(Test::Gt, self, other),
-            IntCmp::SGe => signed_order(Test::Ge, self, other),
-        }
-    }
-
-    pub fn float_cmp(self, cmp: FloatCmp, other: IrValue) -> Computed
-        ensures { λ r. ⌜ r ≡ computed (compareFloats (floatCmpOf cmp) (valueOf self) (valueOf other)) ⌝ }
-    {
-        match cmp {
-            FloatCmp::Eq => equal(Test::Eq, self, other),
-            FloatCmp::Ne => equal(Test::Ne, self, other),
-            FloatCmp::Lt => float_order(Test::Lt, self, other),
-            FloatCmp::Le => float_order(Test::Le, self, other),
-            FloatCmp::Gt => float_order(Test::Gt, self, other),
-            FloatCmp::Ge => float_order(Test::Ge, self, other),
-        }
-    }
-
     // The number that Switch compares with its branches'.
     pub fn switch_on(self) -> Switched
         ensures { λ r. ⌜ r ≡ switched (switchOn (valueOf self)) ⌝ }
@@ -110,73 +71,4 @@ impl IrValue {
         };
         Truth::Is(b)
     }
-
-    // The Bool unchanged, as in the Rust.
-    pub fn not(self) -> Computed
-        ensures { λ r. ⌜ r ≡ computed (notted (valueOf self)) ⌝ }
-    {
-        let IrValue::Bool(b) = self else {
-            return Computed::Refused(WRONG_KINDS);
-        };
-        Computed::Value(IrValue::Bool(b))
-    }
-}
-
-fn equal(test: Test, x: IrValue, y: IrValue) -> Computed
-    ensures { λ r. ⌜ r ≡ computed (equality (testOf test) (valueOf x) (valueOf y)) ⌝ }
-{
-    if x.tag() != y.tag() {
-        return Computed::Refused(WRONG_KINDS);
-    }
-    if !family::has_equality(x) {
-        return Computed::Refused(WRONG_KINDS);
-    }
-    match x {
-        IrValue::F32(_) => truth(test, float::order(x, y)),
-        IrValue::F64(_) => truth(test, float::order(x, y)),
-        _ => truth(test, family::naturals(x.bits(), y.bits())),
-    }
-}
-
-fn unsigned_order(test: Test, x: IrValue, y: IrValue) -> Computed
-    ensures { λ r. ⌜ r ≡ computed (unsignedOrder (testOf test) (valueOf x) (valueOf y)) ⌝ }
-{
-    let AsU64::Is(a) = family::as_u64(x) else {
-        return Computed::Refused(WRONG_KINDS);
-    };
-    let AsU64::Is(b) = family::as_u64(y) else {
-        return Computed::Refused(WRONG_KINDS);
-    };
-    truth(test, family::naturals(a, b))
-}
-
-fn signed_order(test: Test, x: IrValue, y: IrValue) -> Computed
-    ensures { λ r. ⌜ r ≡ computed (signedOrder (testOf test) (valueOf x) (valueOf y)) ⌝ }
-{
-    let AsI64::Is(a) = family::as_i64(x) else {
-        return Computed::Refused(WRONG_KINDS);
-    };
-    let AsI64::Is(b) = family::as_i64(y) else {
-        return Computed::Refused(WRONG_KINDS);
-    };
-    truth(test, family::integers(a, b))
-}
-
-fn float_order(test: Test, x: IrValue, y: IrValue) -> Computed
-    ensures { λ r. ⌜ r ≡ computed (floatOrder (testOf test) (valueOf x) (valueOf y)) ⌝ }
-{
-    if !family::is_float(x) {
-        return Computed::Refused(WRONG_KINDS);
-    }
-    if !family::is_float(y) {
-        return Computed::Refused(WRONG_KINDS);
-    }
-    truth(test, float::order(x, y))
-}
-
-// The Bool that a test of an order is.
-fn truth(test: Test, found: Order) -> Computed
-    ensures { λ r. ⌜ r ≡ computed (ok (Believed.truth (Believed.passes (testOf test) (orderOf found)))) ⌝ }
-{
-    Computed::Value(IrValue::Bool(family::passes(test, found)))
 }

@@ -1,11 +1,8 @@
-// Values and types of the IR, from lir/value.rs: fourteen kinds of value, twelve types, what the instructions that only
-// compute do with them, and their bytes.
+// Values and types of the IR, from lir/value.rs: fourteen kinds of value, twelve types, their tags, bits and bytes.
 mod bits;
 mod bytes;
 mod compare;
-mod family;
 mod float;
-mod integer;
 mod kind;
 pub mod refusal;
 mod signed;

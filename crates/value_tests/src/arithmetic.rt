@@ -2,18 +2,24 @@
 use crate::digest;
 use crate::edges;
 use crate::say;
+use operations::integer::add;
+use operations::integer::div;
+use operations::integer::mul;
+use operations::integer::negate;
+use operations::integer::rem;
+use operations::integer::sub;
 use value::Computed;
 use value::IrValue;
 use value::Made;
 
 fn compute(operation: u64, x: IrValue, y: IrValue) -> Computed {
     match operation {
-        0 => x.add(y),
-        1 => x.sub(y),
-        2 => x.mul(y),
-        3 => x.div(y),
-        4 => x.rem(y),
-        _ => x.negate(),
+        0 => add(x, y),
+        1 => sub(x, y),
+        2 => mul(x, y),
+        3 => div(x, y),
+        4 => rem(x, y),
+        _ => negate(x),
     }
 }
 

@@ -2,6 +2,7 @@
 use crate::digest;
 use crate::edges;
 use crate::say;
+use comparing::compare::int_cmp;
 use value::IntCmp;
 use value::IntComparison;
 use value::IrValue;
@@ -17,7 +18,7 @@ fn answer(h: u64, number: u64, x: Made, y: Made) -> u64 {
     let Made::Value(w) = y else {
         return digest::add(h, 15);
     };
-    digest::answer(h, v.int_cmp(cmp, w))
+    digest::answer(h, int_cmp(cmp, v, w))
 }
 
 // All pairs of edges of two kinds.

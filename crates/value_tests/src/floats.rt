@@ -1,5 +1,8 @@
 // The float vectors: a line is an operation, a width, the operands and the answer, in hex; `nan` is the canonical NaN.
 use crate::say;
+use comparing::compare::float_cmp;
+use operations::float::fdiv;
+use operations::integer::negate;
 use value::Computed;
 use value::FloatCmp;
 use value::IrType;
@@ -105,14 +108,14 @@ const GE: u64 = 0x6765;
 
 fn compute(operation: u64, x: IrValue, y: IrValue) -> Computed {
     match operation {
-        DIV => x.fdiv(y),
-        NEG => x.negate(),
-        EQ => x.float_cmp(FloatCmp::Eq, y),
-        NE => x.float_cmp(FloatCmp::Ne, y),
-        LT => x.float_cmp(FloatCmp::Lt, y),
-        LE => x.float_cmp(FloatCmp::Le, y),
-        GT => x.float_cmp(FloatCmp::Gt, y),
-        GE => x.float_cmp(FloatCmp::Ge, y),
+        DIV => fdiv(x, y),
+        NEG => negate(x),
+        EQ => float_cmp(FloatCmp::Eq, x, y),
+        NE => float_cmp(FloatCmp::Ne, x, y),
+        LT => float_cmp(FloatCmp::Lt, x, y),
+        LE => float_cmp(FloatCmp::Le, x, y),
+        GT => float_cmp(FloatCmp::Gt, x, y),
+        GE => float_cmp(FloatCmp::Ge, x, y),
         _ => Computed::Refused(0),
     }
 }

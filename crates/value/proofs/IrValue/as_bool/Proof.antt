@@ -4,7 +4,7 @@ use mathlib.Core.List.{[], _∷_}
 use Rattle.value.specs.Value.{same, tag, bool}
 use Rattle.value.specs.Ir.{valueOf}
 use Rattle.value.proofs.Leftover.{left-over, rest}
-use Rattle.value.proofs.Comparing.{bool-is, no-bool}
+use Rattle.value.proofs.Switching.{bool-is, no-bool}
 use Rattle.value.proofs.IrValue.as_bool.Statement.{statement}
 use Rattle.value.proofs.IrValue.as_bool.Tie as tie
 

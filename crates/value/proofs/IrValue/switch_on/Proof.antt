@@ -5,7 +5,7 @@ use mathlib.Core.List.{[], _∷_}
 use Rattle.value.specs.Value.{switches, tag}
 use Rattle.value.specs.Ir.{valueOf}
 use Rattle.value.proofs.Leftover.{left-over, rest}
-use Rattle.value.proofs.Comparing.{switch-is, no-switch}
+use Rattle.value.proofs.Switching.{switch-is, no-switch}
 use Rattle.value.proofs.IrValue.switch_on.Statement.{statement}
 use Rattle.value.proofs.IrValue.switch_on.Tie as tie
 

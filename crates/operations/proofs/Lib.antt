@@ -1,0 +1,4 @@
+pub mod Divided
+pub mod Widths
+pub mod Wholes
+pub mod Arithmetic
