@@ -1,9 +1,10 @@
-// The entries of the evaluator as C functions: link target/staticlib/libembed.a, which `rt staticlib embed` writes.
+// The entries of the evaluator as C functions: link target/staticlib/libembed.a, which `rt staticlib embed` writes, for x86-64 Linux.
 //
 // A slice is a pointer and a count of its elements; a count of 0 goes with any pointer that is aligned and not null.
 // Every length is tested: no call reaches past what it was lent. Slices that are written must not overlap any other.
 // Each function returns 0, or the number of a refusal. A refused call leaves all that it was lent as it stood, but for `answer`,
-// and but for a run, which a refused instruction stops after the steps that were done.
+// and but for a run, which a refused instruction stops after the steps that were done. A call that takes an answer sets all its words,
+// to 0 where there is nothing to say; a wrong count of registers or answer changes nothing at all.
 #ifndef LIR_H
 #define LIR_H
 
@@ -30,47 +31,47 @@ enum {
     LIR_ENDED = 0,          // 1 after the last Return
     LIR_TAG = 1,            // the returned value's tag, 0 for none
     LIR_BITS = 2,
-    LIR_COUNT = 3           // steps done, the new pointer's number or bytes written; where an image is refused, the place
+    LIR_COUNT = 3           // a run's steps, the new pointer's number or bytes written; where an image is refused, the place
 };
 
-// The refusals.
+// The refusals: of an image, of an entry, of an instruction, of room.
 enum {
     LIR_DONE = 0,
-    LIR_BYTES_RUN_OUT = 1,
-    LIR_MALFORMED = 2,
-    LIR_UNKNOWN = 3,
-    LIR_OVER_LIMIT = 4,
-    LIR_BEYOND_COUNT = 5,
-    LIR_LEFT_OVER = 6,
-    LIR_NOT_SOUND = 10,
-    LIR_RUNNING = 11,
-    LIR_IDLE = 12,
-    LIR_NO_FUNCTION = 13,
-    LIR_WRONG_ARGUMENTS = 14,
-    LIR_NOT_SCALAR = 15,
-    LIR_NO_INSTRUCTION = 20,
-    LIR_NEVER_SET = 21,
-    LIR_WRONG_KINDS = 22,
-    LIR_OUTSIDE_WIDTH = 23,
-    LIR_ZERO_DIVISOR = 24,
-    LIR_NOT_GIVEN_OUT = 25,
-    LIR_THROUGH_CONSTANT = 26,
-    LIR_FRAME_GONE = 27,
-    LIR_NO_ALLOCATION = 28,
-    LIR_BEYOND_LENGTH = 29,
-    LIR_MISALIGNED = 30,
-    LIR_NOT_BOOL = 31,
-    LIR_NO_RETURN_PLACE = 32,
-    LIR_OFFSET_TOO_LARGE = 33,
-    LIR_BYTES_EXCEED_SIZE = 34,
-    LIR_FRAMES_FULL = 35,
-    LIR_IDS_SPENT = 36,
-    LIR_ALLOCATIONS_FULL = 37,
-    LIR_BYTES_FULL = 38,
-    LIR_POINTERS_FULL = 39,
-    LIR_NO_CONSTANT = 40,
-    LIR_SHORT_TABLE = 41,
-    LIR_SHORT_BUFFER = 42
+    LIR_BYTES_RUN_OUT = 1,          // bytes run out, in a number before its tenth
+    LIR_MALFORMED = 2,              // number malformed
+    LIR_UNKNOWN = 3,                // unknown tag, flag, opcode or version, or a value too large for its width or kind
+    LIR_OVER_LIMIT = 4,             // a count, size or running total over its limit
+    LIR_BEYOND_COUNT = 5,           // a variable, label, constant or function beyond its count
+    LIR_LEFT_OVER = 6,              // bytes left over
+    LIR_NOT_SOUND = 10,             // state not sound
+    LIR_RUNNING = 11,               // start on a running machine
+    LIR_IDLE = 12,                  // run on an idle one
+    LIR_NO_FUNCTION = 13,           // no such function
+    LIR_WRONG_ARGUMENTS = 14,       // wrong number of arguments
+    LIR_NOT_SCALAR = 15,            // a Char that is no scalar value
+    LIR_NO_INSTRUCTION = 20,        // no instruction at this place
+    LIR_NEVER_SET = 21,             // variable never set
+    LIR_WRONG_KINDS = 22,           // wrong kinds for the instruction
+    LIR_OUTSIDE_WIDTH = 23,         // integer result outside its width
+    LIR_ZERO_DIVISOR = 24,          // integer division by zero
+    LIR_NOT_GIVEN_OUT = 25,         // pointer number not given out
+    LIR_THROUGH_CONSTANT = 26,      // write or offset through a constant pointer
+    LIR_FRAME_GONE = 27,            // frame index not on the stack, or its id differs
+    LIR_NO_ALLOCATION = 28,         // no such allocation in that frame
+    LIR_BEYOND_LENGTH = 29,         // offset + size beyond the length
+    LIR_MISALIGNED = 30,            // size does not divide offset; size 0 divides only 0
+    LIR_NOT_BOOL = 31,              // Bool read from a byte above 1
+    LIR_NO_RETURN_PLACE = 32,       // value returned where the call had no place
+    LIR_OFFSET_TOO_LARGE = 33,      // offset sum above 2^64 - 1
+    LIR_BYTES_EXCEED_SIZE = 34,     // Initialize bytes exceed its size
+    LIR_FRAMES_FULL = 35,           // 64 frames stand, root included
+    LIR_IDS_SPENT = 36,             // id counter is 4,294,967,295
+    LIR_ALLOCATIONS_FULL = 37,      // 512 live allocations
+    LIR_BYTES_FULL = 38,            // live bytes plus the request exceed 32,768
+    LIR_POINTERS_FULL = 39,         // 4,096 pointers given out
+    LIR_NO_CONSTANT = 40,           // constant not in this image
+    LIR_SHORT_TABLE = 41,           // list table shorter than the pointers
+    LIR_SHORT_BUFFER = 42           // image writer's buffer too short
 };
 
 // A machine's slices, each a pointer and a count: those that a call may change, and those that it only reads.
@@ -91,7 +92,8 @@ enum {
 // Fresh memory: idle, a root frame, nothing given out and no variable set.
 uint64_t lir_fresh(LIR_MACHINE, uint64_t *variables, size_t variables_count);
 
-// A function begins on an idle machine, with a context and arguments as tags and bits, one of each for an argument.
+// A function begins on an idle machine, with a context and arguments as tags and bits, one of each for an argument. A tag and bits
+// that are no value, and bits that are missing, are 15.
 uint64_t lir_start(const uint8_t *image, size_t image_count, uint64_t function, uint64_t context_tag, uint64_t context_bits,
                    const uint64_t *tags, size_t tags_count, const uint64_t *bits, size_t bits_count,
                    LIR_MACHINE, uint64_t *variables, size_t variables_count);

@@ -83,6 +83,21 @@ impl Tables {
         }
     }
 
+    /// All lengths are right but one, which is one too short or one too long.
+    fn one_wrong(&mut self, chance: &mut Chance) -> Lent<'_> {
+        let (wrong, longer) = (chance.below(7), chance.below(2) as usize);
+        let length = |slice: u64, right: usize| if slice == wrong { right - 1 + 2 * longer } else { right };
+        Lent {
+            registers: last(&mut self.registers, length(0, REGISTERS)),
+            answer: last(&mut self.answer, length(1, ANSWER)),
+            store: last(&mut self.store, length(2, STORE)),
+            frames: last(&mut self.frames, length(3, FRAMES)),
+            bounds: last(&mut self.bounds, length(4, BOUNDS)),
+            pointers: last(&mut self.pointers, length(5, POINTERS)),
+            variables: last(&mut self.variables, length(6, VARIABLES)),
+        }
+    }
+
     /// A word somewhere is overwritten: registers often, for then the tables are looked at far from their start.
     fn spoil(&mut self, chance: &mut Chance) {
         let word = chance.number();
@@ -166,9 +181,10 @@ fn misuse_is_only_refused() {
                 last(allocation, rooms[2]),
                 last(offset, rooms[3]),
             ),
-            slices::write_image(&bytes, last(&mut buffer, room), last(&mut tables.answer, ANSWER)),
-            slices::fresh(Lent { registers: &mut [], ..tables.lent(&mut chance) }),
+            slices::write_image(&bytes, last(&mut buffer, room), last(&mut tables.answer, chance.length(ANSWER))),
+            slices::fresh(tables.one_wrong(&mut chance)),
         ];
+        assert_eq!(numbers[8], Refusal::NotSound.number(), "fresh memory with a wrong length");
         for number in numbers {
             *tally.entry(known(number)).or_insert(0) += 1;
         }
