@@ -40,7 +40,7 @@ flaggedSet s f (t ∷ ts) (b ∷ bs) vars = valuesSet s (f .wanted) (f .paramete
 unfoldable pub startedSet : (image : List ℕ) → Callee → (tags bits vars : List ℕ) → List ℕ
 startedSet s f ts bs vars = pick (eqb (f .flag) 0) (valuesSet s (f .wanted) (f .parameters) ts bs vars) (flaggedSet s f ts bs vars)
 
--- "Start clears all variables, sets the context, .. then makes slots", the first of which is allocation g
+-- "Start clears all variables, sets the context, .. then makes slots", the first of which has pointer g
 unfoldable pub variablesSet : (image : List ℕ) → Callee → Found → (tags bits : List ℕ) → (g : ℕ) → (vars : List ℕ) → List ℕ
 variablesSet s f context ts bs g vars =
     slotsPointed s (f .count) (f .slots) g (startedSet s f ts bs (setVariable (replicate (length vars) 0) (f .context) context))

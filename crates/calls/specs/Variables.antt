@@ -33,7 +33,7 @@ undoneOf vars x old (outcome.Refused n) = both (outcome.Refused n) (setVariable 
 unfoldable pub foundSet : List ℕ → ℕ → Found → Answer (List ℕ)
 foundSet vars x v = pick (eqb (v .tag) 0) (refused (v .bits)) (ok (setVariable vars x v))
 
--- the variables of n slots point to allocations from g on
+-- the variables of n slots take the pointers from number g on
 unfoldable pub slotsPointed : (image : List ℕ) → (n at g : ℕ) → List ℕ → List ℕ
 slotsPointed s zero at g vars = vars
 slotsPointed s (suc n) at g vars =
@@ -53,7 +53,7 @@ argumentsSet s (suc n) p (suc k) a vars =
 unfoldable pub contextSet : (image : List ℕ) → CallFields → Callee → List ℕ → Answer (List ℕ)
 contextSet s call f vars = pick (eqb (call .context) 0) (ok vars) (foundSet vars (f .context) (evaluated vars (operandAt s (call .context))))
 
--- the return pointer, if there is one: "a Call's return-pointer variable is set whatever the callee's flag says"
+-- the return pointer, if there is one, whatever the callee's flag says
 unfoldable pub pointerSet : CallFields → Callee → List ℕ → Answer (List ℕ)
 pointerSet call f vars = pick (eqb (call .pointer) 0) (ok vars) (foundSet vars (f .result) (readVariable vars (call .pointer - 1)))
 
@@ -65,6 +65,6 @@ contextOn s call f vars = contextSet s call f vars >>= λ vs. argumentsSet s (f 
 unfoldable pub pointerOn : (image : List ℕ) → CallFields → Callee → List ℕ → Answer (List ℕ)
 pointerOn s call f vars = pointerSet call f vars >>= λ vs. contextOn s call f vs
 
--- the callee's slots, the first of which is allocation g, then the return pointer, the context and the arguments
+-- the callee's slots, the first of which has pointer g, then the return pointer, the context and the arguments
 unfoldable pub slotsOn : (image : List ℕ) → CallFields → Callee → (n at g : ℕ) → List ℕ → Answer (List ℕ)
 slotsOn s call f n at g vars = pointerOn s call f (slotsPointed s n at g vars)

@@ -84,7 +84,7 @@ pub fn set_started(image: &[u8], callee: Callee, tags: &[u64], bits: &[u64], var
     set_values(image, callee, tags, bits, 1, vars);
 }
 
-// The variables of the slots point to allocations from `first` on.
+// The variables of the slots take the pointers from number `first` on.
 fn point_slots(image: &[u8], callee: Callee, first: usize, vars: &mut [u64])
     requires { ⌜ first + callee .count < 18446744073709551616 ⌝ }
     ensures { λ r. ⌜ now (vars .exit) ≡ slotsPointed (now (image .entry)) (callee .count) (callee .slots) first (now (vars .entry)) ⌝ }

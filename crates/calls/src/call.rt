@@ -30,7 +30,7 @@ use memory::push_frame;
 use value::IrType;
 use value::refusal::NO_INSTRUCTION;
 
-// The variables of `left` slots point to allocations from `number` on; then the return pointer, the context and the arguments.
+// The variables of `left` slots take the pointers from `number` on; then the return pointer, the context and the arguments.
 fn set_slots(
     image: &[u8],
     call: CallFields,

@@ -35,7 +35,7 @@ isValue t b = ofKind (kindAt t) b
 unfoldable pub valueAt : (tags bits : List ℕ) → ℕ → Bool
 valueAt ts bs k = ltb k (length bs) && isValue (getD ts k 0) (getD bs k 0)
 
--- "14 arguments differ from parameters plus one where flagged"
+-- "14 wrong number of arguments": one for each parameter, and one more where flagged
 unfoldable pub wantedOf : Callee → (given : ℕ) → Bool
 wantedOf f n = pick (eqb (f .flag) 0) (eqb n (f .wanted)) (pick (eqb n 0) false (eqb (n - 1) (f .wanted)))
 

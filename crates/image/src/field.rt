@@ -90,7 +90,7 @@ pub fn up_to_after(image: &[u8], c: Step, most: u64, why: u64) -> Number
     }
 }
 
-// The number `v` alone: a version, or a flag that must be set.
+// The number `only` and no other: a version, or a flag that must be set.
 pub fn only_after(image: &[u8], c: Step, only: u64) -> Number
     ensures { λ r. ⌜ got r ≡ after c (such (now (image .entry)) (λ v. eqb v only) unknown) ⌝ }
 {

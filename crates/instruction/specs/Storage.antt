@@ -190,7 +190,7 @@ initializedBy r vars to =
     let w = pointedOf (r .answer) vars to in
     stepped (w .answer) (r .store) (r .frames) (r .bounds) (r .pointers) (w .table)
 
--- Initialize: "to, size, count, raw bytes". "34, then allocate."
+-- Initialize: "to, size .., count .., raw bytes". "34, then allocate."
 unfoldable pub initializedOf : Tables → (image vars : List ℕ) → (at : ℕ) → Stepped
 initializedOf t s vars at =
     let to = fieldAt s at in

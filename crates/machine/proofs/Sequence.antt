@@ -1,4 +1,4 @@
--- The sequence is accepted, and answered as it says, by computing; and the history tells the same.
+-- The sequences are accepted, and answered as they say, by computing; and the history tells the same.
 use mathlib.Core.Path.{_≡_, refl, sym, _∙_}
 use Rattle.value.specs.Answer.{need, found, _>>=_}
 use Rattle.value.specs.Value.{kindOf, tag, size, family, isScalar, isBadChar, leBytes, leNumber, bytesOf, fromBytes}
@@ -15,7 +15,7 @@ use Rattle.machine.specs.Accepted.{given, goodOperand, goodOptional, goo
 use Rattle.machine.specs.Asks.{changes, shows, steps, goes, lays, ask, replies}
 use Rattle.machine.specs.Entries.{enter, answers}
 use Rattle.machine.specs.Demand.{Accepted}
-use Rattle.machine.specs.Sequence.{asked, answered}
+use Rattle.machine.specs.Sequence.{asked, answered, entered, replied}
 use Rattle.machine.proofs.Demand.{replies-are-told}
 
 pub asked-accepted : Accepted asked
@@ -29,3 +29,14 @@ asked-answered = refl
 -- and so it is told
 pub asked-told : replies recalled asked (M.fresh recalled) ≡ answered
 asked-told = sym (replies-are-told asked asked-accepted) ∙ asked-answered
+
+pub entered-accepted : Accepted entered
+unfolding entered all given holds goodOperand goodOptional goodTo goodInstruction accepted acceptedAsk flatten tag M.asVariable
+entered-accepted = tt
+
+pub entered-replied : answers entered (M.fresh believed) ≡ replied
+unfolding entered replied need found _>>=_ kindOf tag size family isScalar isBadChar flatten Memory.fresh sum liveCount liveBytes allocate popFrame livePointer liveList rising goodVar goodBack goodBacks goodValue goodVars inKind typed soundMachine soundMemory bytesIn all holds sound changes shows steps goes lays ask enter answers M.start M.run M.runFrom M.after M.step M.stepOnce M.execute M.leave M.makeSlots M.fresh M.setStarted M.setValues M.allGood M.valueIf M.valueOf M.hostAllocate M.hostList
+entered-replied = refl
+
+pub entered-told : replies recalled entered (M.fresh recalled) ≡ replied
+entered-told = sym (replies-are-told entered entered-accepted) ∙ entered-replied

@@ -6,8 +6,8 @@ use mathlib.Core.Option.{Option, none, some}
 use lib.Dec.{eqb}
 use Rattle.value.specs.Answer.{Answer, ok, refused, _>>=_}
 use Rattle.value.specs.Refusal.{wrongKinds, outsideWidth, frameGone, beyondLength, misaligned, notBool, noReturnPlace, bytesExceedSize, noInstruction}
-use Rattle.value.specs.Value.{Value, value, Eq, IrType, bool, u8, u32, u64, i8, pointer, tag, size}
-use Rattle.image.specs.Program.{Program, Operand, variable, literal, Slot, Item, Function, Instruction, Switch, Assign, Call, Return, IntCmp′, Add, Mul, Div, Mod, Negate, Offset, Initialize, Write, Read, Copy}
+use Rattle.value.specs.Value.{Value, value, Eq, ULt, FLt, IrType, bool, u8, u32, u64, i8, f32, pointer, tag, size}
+use Rattle.image.specs.Program.{Program, Operand, variable, literal, Slot, Item, Function, Instruction, Jump, Switch, Assign, ConstantAddress, Call, Return, IntCmp′, FloatCmp′, Add, Sub, Mul, Div, Mod, FDiv, Not, Negate, Offset, Initialize, Write, Read, Copy, Drop}
 use Rattle.memory.specs.Memory.{fresh}
 use Rattle.machine.specs.Machine as M
 use Rattle.machine.specs.Machine.{Memories, Outcome, returned, paused, stopped, Ran}
@@ -52,7 +52,7 @@ allHold mem (c ∷ cs) = ran c (runs mem c) && allHold mem cs
 
 -- ---- the programs
 
--- no parameters, return variable 0, context variable 1, and these slots
+-- return variable 0, context variable 1, and these parameters and slots
 abbrev pub plain : (entry : ℕ) → List ℕ → List Slot → Function
 plain entry parameters slots = record { item = Item.function; entry = entry; returnVar = 0; contextVar = 1; returnPointer = false; parameters = parameters; slots = slots }
 
@@ -123,6 +123,30 @@ calls arguments value′ result = of (plain 0 [] [] ∷ plain 1 (3 ∷ []) [] �
     ∷ (Assign 4 (literal (value u8 5)) IrType.U8 ∷ Return value′ ∷ [])
     ∷ [])
 
+-- Jump: a label is a block's position, and its place the number of instructions before it
+abbrev pub jumps : Program
+jumps = of (plain 0 [] [] ∷ []) (
+    (Assign 2 (literal (value u8 0)) IrType.U8 ∷ Jump 2 ∷ [])
+    ∷ (Return (some (literal (value u8 1))) ∷ [])
+    ∷ (Return (some (literal (value u8 2))) ∷ [])
+    ∷ [])
+
+-- Call: the return pointer is read before the context is set, and goes to the callee's variable though it is not flagged
+abbrev pub pointers : Program
+pointers = of (plain 0 [] [] ∷ plain 1 [] [] ∷ []) (
+    (Call (some (record { to = 2; type = IrType.U8 })) (some (literal (value u8 9))) 1 [] (some 1) ∷ Return (some (variable 2)) ∷ [])
+    ∷ (Return (some (variable 0)) ∷ [])
+    ∷ [])
+
+-- ConstantAddress: the second constant's byte
+abbrev pub constants : Program
+constants = record {
+  variables = 16;
+  constants = (1 ∷ []) ∷ (2 ∷ []) ∷ [];
+  functions = plain 0 [] [] ∷ [];
+  blocks = (ConstantAddress 3 1 ∷ Read 2 (variable 3) IrType.U8 ∷ Return (some (variable 2)) ∷ []) ∷ [];
+}
+
 abbrev pub case : Program → List Value → ℕ → Outcome → ℕ → Case
 case P gs budget outcome count = record { program = P; arguments = gs; budget = budget; outcome = outcome; count = count }
 
@@ -157,6 +181,20 @@ cases =
     ∷ case (calls [] (some (variable 4)) 4) [] 9 (stopped noReturnPlace) 4
     ∷ case (gives (Initialize 2 1 (0 ∷ 0 ∷ []))) [] 9 (stopped bytesExceedSize) 0
     ∷ case (just (Initialize 3 2 [] ∷ Write (variable 3) (literal (value u32 0)) ∷ [])) [] 9 (stopped beyondLength) 1
+    -- Write takes no other value of 8 bytes; Copy tests its first operand before the second is read; Drop evaluates nothing, and Assign ignores the declared kind
+    ∷ case (just (Write (literal (value u64 0)) (literal (value u8 0)) ∷ [])) [] 9 (stopped wrongKinds) 0
+    ∷ case (just (Copy (literal (value u8 0)) (variable 2) 0 ∷ [])) [] 9 (stopped wrongKinds) 0
+    ∷ case (just (Drop (variable 2) ∷ Return none ∷ [])) [] 9 (returned none) 2
+    ∷ case (gives (Assign 2 (literal (value u8 7)) IrType.U64)) [] 9 (returned (some (value u8 7))) 2
+    -- an operation's operands in their order: 5 - 3, U8 3 < U32 5, 1.0 < 2.0, 1.0 / 2.0; Not gives its Bool
+    ∷ case (gives (Sub 2 (literal (value u8 5)) (literal (value u8 3)))) [] 9 (returned (some (value u8 2))) 2
+    ∷ case (gives (IntCmp′ 2 ULt (literal (value u8 3)) (literal (value u32 5)))) [] 9 (returned (some (value bool 1))) 2
+    ∷ case (gives (FloatCmp′ 2 FLt (literal (value f32 0x3f800000)) (literal (value f32 0x40000000)))) [] 9 (returned (some (value bool 1))) 2
+    ∷ case (gives (FDiv 2 (literal (value f32 0x3f800000)) (literal (value f32 0x40000000)))) [] 9 (returned (some (value f32 0x3f000000))) 2
+    ∷ case (gives (Not 2 (literal (value bool 1)))) [] 9 (returned (some (value bool 1))) 2
+    ∷ case jumps [] 9 (returned (some (value u8 2))) 3
+    ∷ case pointers [] 9 (returned (some (value bool 0))) 3
+    ∷ case constants [] 9 (returned (some (value u8 2))) 3
     ∷ case (just []) [] 0 paused 0
     ∷ case (just []) [] 1 (stopped noInstruction) 0
     ∷ []

@@ -1,12 +1,14 @@
--- A sequence that the theorems speak of: a Call, a Write in it, its Return, and then reads through both pointers. It is computed.
+-- Two sequences that are computed: one that the theorems speak of, a Call, a Write in it, its Return, and then reads through both pointers;
+-- and one of refused and granted entries, in the order of their checks.
 use mathlib.Core.Bool.{true, false}
 use mathlib.Core.List.{List, [], _∷_}
 use mathlib.Core.Option.{none, some}
-use Rattle.value.specs.Refusal.{frameGone}
-use Rattle.value.specs.Value.{IrType, value, bool, u32}
-use Rattle.image.specs.Program.{Program, variable, literal, Call, Return, Write}
+use Rattle.value.specs.Refusal.{frameGone, running, idle, noFunction, wrongArguments, notScalar, neverSet, shortTable}
+use Rattle.value.specs.Value.{IrType, Value, value, bool, u8, u32, char, pointer}
+use Rattle.image.specs.Program.{Program, Item, variable, literal, Assign, Call, Return, Write}
 use Rattle.memory.specs.Live.{listed}
-use Rattle.machine.specs.Asks.{Ask, toStart, toStep, toRead, toList, Reply, done, bytes, lists, refusal}
+use Rattle.machine.specs.Machine.{returned, paused, stopped}
+use Rattle.machine.specs.Asks.{Ask, toAllocate, toStart, toStep, toRun, toRead, toList, Reply, done, gave, bytes, ran, lists, refusal}
 use Rattle.machine.specs.Cases.{plain, of}
 
 -- the function 0, with a slot in the variable 3, calls 1 and then 2, which have a slot each; 1 stores 7 in its own slot and 9 in its caller's
@@ -48,4 +50,66 @@ answered =
     ∷ refusal frameGone
     ∷ bytes (0 ∷ 0 ∷ 0 ∷ 0 ∷ [])
     ∷ lists (listed true 0 0 0 ∷ listed false 1 0 0 ∷ listed true 1 0 0 ∷ [])
+    ∷ []
+
+-- ---- the entries
+
+-- the function 0 returns its argument by the variable 5, 1 its return pointer, and 2 the variable 5
+abbrev pub starts : Program
+starts = of (plain 0 (2 ∷ []) [] ∷ record { item = Item.function; entry = 1; returnVar = 0; contextVar = 1; returnPointer = true; parameters = []; slots = [] } ∷ plain 2 [] [] ∷ []) (
+    (Assign 5 (variable 2) IrType.U8 ∷ Return (some (variable 5)) ∷ [])
+    ∷ (Return (some (variable 0)) ∷ [])
+    ∷ (Return (some (variable 5)) ∷ [])
+    ∷ [])
+
+-- a Char that is no scalar value
+abbrev pub badChar : Value
+badChar = value char 0xd800
+
+-- "Order: .. 11 or 12, 13, 14, 15, then room": each of the first is refused by the first of its faults. The host allocates while the run is paused, a start clears the
+-- variable 5, and after a refused instruction the machine still runs.
+unfoldable pub entered : List Ask
+entered =
+    toStep starts
+    ∷ toRun starts 9
+    ∷ toStart starts 9 badChar []
+    ∷ toStart starts 0 badChar []
+    ∷ toStart starts 0 (value bool 0) (value u8 1 ∷ value u8 2 ∷ [])
+    ∷ toStart starts 0 badChar (value u8 1 ∷ [])
+    ∷ toStart starts 0 (value bool 0) (badChar ∷ [])
+    ∷ toStart starts 0 (value bool 0) (value u8 7 ∷ [])
+    ∷ toStart starts 9 (value bool 0) []
+    ∷ toRun starts 1
+    ∷ toAllocate 4
+    ∷ toList 0
+    ∷ toList 1
+    ∷ toRun starts 9
+    ∷ toStart starts 1 (value bool 0) (value pointer 3 ∷ [])
+    ∷ toRun starts 9
+    ∷ toStart starts 2 (value bool 0) []
+    ∷ toRun starts 9
+    ∷ toStart starts 2 (value bool 0) []
+    ∷ []
+
+unfoldable pub replied : List Reply
+replied =
+    refusal idle
+    ∷ refusal idle
+    ∷ refusal noFunction
+    ∷ refusal wrongArguments
+    ∷ refusal wrongArguments
+    ∷ refusal notScalar
+    ∷ refusal notScalar
+    ∷ done
+    ∷ refusal running
+    ∷ ran paused 1
+    ∷ gave 0
+    ∷ refusal shortTable
+    ∷ lists (listed true 0 0 0 ∷ [])
+    ∷ ran (returned (some (value u8 7))) 1
+    ∷ done
+    ∷ ran (returned (some (value pointer 3))) 1
+    ∷ done
+    ∷ ran (stopped neverSet) 0
+    ∷ refusal running
     ∷ []

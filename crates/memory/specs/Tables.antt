@@ -82,7 +82,7 @@ ready t =
 
 -- ---- words
 
--- word c of frame i's record; of it, the id and how many allocations lie in the frames below
+-- word c of frame i's record; from 4 on, of the record above it
 abbrev pub frameWord : List ℕ → (i c : ℕ) → ℕ
 frameWord fr i c = getD fr (i * 4 + c) 0
 

@@ -59,7 +59,7 @@ abbrev pub replyMoved : Moved → Reply
 replyMoved (moved.Done n) = countedOf 0 0
 replyMoved (moved.Refused number) = countedOf number 0
 
--- "returned with a value or nothing"; an image is refused at a place
+-- "returned (a value or none)"; an image is refused at a place
 abbrev pub replyEntered : Entered → Reply
 replyEntered (entered.Went n) = countedOf 0 0
 replyEntered (entered.Returned n v) = reply 0 1 (v .tag) (v .bits) 0

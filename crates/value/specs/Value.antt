@@ -110,7 +110,7 @@ isFloat signed = false
 isFloat floating = true
 isFloat neither = false
 
--- a value's bits lie below 2 ^ width; a Bool's are 0 or 1, and a Char's a scalar value
+-- any bits may stand here; which are a value's, `holds` says (Tags)
 pub record Value : Type 0 where
   pub kind : Kind
   pub bits : ℕ
