@@ -61,11 +61,12 @@ def library():
 
 
 def emulated(source, archive, program):
-    """A C file compiled and linked for x86-64 on another processor: the words that run it."""
+    """A C file compiled and linked for x86-64 on another processor by the kit's own compiler: the words that run it."""
     own = kit()[1]
     tools, made = os.path.join(own, "toolchain"), program + ".o"
-    headers = subprocess.run(["cc", "-print-multiarch"], capture_output=True, text=True, check=True).stdout.strip()
-    subprocess.run(["clang", "--target=x86_64-linux-gnu", "-isystem", f"/usr/include/{headers}", *OPTIONS, "-c", "-o", made, source], check=True)
+    asked = [subprocess.run(["cc", question], capture_output=True, text=True, check=True).stdout.strip() for question in ("-print-file-name=include", "-print-multiarch")]
+    headers = [word for folder in (asked[0], f"/usr/include/{asked[1]}", "/usr/include") for word in ("-isystem", folder)]
+    subprocess.run([os.path.join(tools, "bin", "clang"), "--target=x86_64-linux-gnu", *headers, *OPTIONS, "-c", "-o", made, source], check=True)
     subprocess.run([os.path.join(own, "bin", "rattle-link"), "--target", "x86_64-unknown-linux-gnu", "--toolchain", tools, "-o", program, made, archive],
                    check=True, stderr=subprocess.DEVNULL)
     loader = os.path.join(tools, "lib", "ld-linux-x86-64.so.2")
