@@ -6,3 +6,4 @@ pub mod Whole
 pub mod Computed
 pub mod Values
 pub mod Short
+pub mod Unsigned

@@ -3,3 +3,4 @@ pub mod Decode
 pub mod Compute
 pub mod Code
 pub mod Storage
+pub mod Short

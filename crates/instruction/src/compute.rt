@@ -1,7 +1,11 @@
 // What the instructions that only compute make of their operands' values, as tags and bits.
 ghost use mathlib.Core.Path.{_≡_};
+ghost use Prim.Native.Nat.{ℕ};
 ghost use Rattle.value.specs.Tags.{intCmpAt, floatCmpAt};
 ghost use Rattle.value.specs.Ir.{valueOf, computed};
+ghost use Rattle.value.specs.Answer.{pick};
+ghost use Rattle.instruction.specs.Variables.{found};
+ghost use Rattle.instruction.specs.Short.{Unsigned, Alike};
 ghost use Rattle.instruction.specs.Compute.{foundOf, foundAs, comparedInts, comparedFloats, operated, withSecond, binaryOf, altered, unaryOf};
 use crate::variables::Found;
 use comparing::compare::float_cmp;
@@ -19,6 +23,7 @@ use value::FloatCmp;
 use value::FloatComparison;
 use value::IntCmp;
 use value::IntComparison;
+use value::IrType;
 use value::IrValue;
 use value::Made;
 use value::refusal::NO_INSTRUCTION;
@@ -90,10 +95,96 @@ pub fn with_second(opcode: u64, how: u64, a: IrValue, y: Found) -> Found
     }
 }
 
+// The greatest number of an unsigned kind, by its tag; 0 where the kind is another.
+fn greatest(tag: u64) -> u64
+    ensures { λ r. ⌜ ((r ≡ 0 → ⊥) → Unsigned tag r) ⌝ }
+{
+    match tag {
+        IrType::U8_TAG => 0xff,
+        IrType::U16_TAG => 0xffff,
+        IrType::U32_TAG => 0xffff_ffff,
+        IrType::U64_TAG => 0xffff_ffff_ffff_ffff,
+        _ => 0,
+    }
+}
+
+// A Bool's tag and bits.
+fn truth(test: bool) -> Found
+    ensures { λ r. ⌜ r ≡ found 1 (pick test 1 0) ⌝ }
+{
+    Found {
+        tag: IrType::BOOL_TAG,
+        bits: test as u64,
+    }
+}
+
+// The unsigned comparisons, by their numbers; tag 0 for the others.
+fn order(how: u64, a: u64, b: u64) -> Found
+    ensures { λ r. ⌜ ((r .tag ≡ 0 → ⊥) → (tag top : ℕ) → Alike tag top a b → r ≡ foundOf (binaryOf 6 how (found tag a) (found tag b))) ⌝ }
+{
+    match how {
+        2 => truth(a < b),
+        3 => truth(a <= b),
+        4 => truth(b < a),
+        5 => truth(b <= a),
+        _ => Found { tag: 0, bits: 0 },
+    }
+}
+
+// The sum where it is no more than `top`; else tag 0.
+fn sum(tag: u64, top: u64, a: u64, b: u64) -> Found
+    requires { ⌜ Alike tag top a b ⌝ }
+    ensures { λ r. ⌜ ((r .tag ≡ 0 → ⊥) → (how : ℕ) → r ≡ foundOf (binaryOf 8 how (found tag a) (found tag b))) ⌝ }
+{
+    if top - a < b {
+        return Found { tag: 0, bits: 0 };
+    }
+    Found { tag, bits: a + b }
+}
+
+// The difference where it is no less than 0; else tag 0.
+fn difference(tag: u64, a: u64, b: u64) -> Found
+    ensures { λ r. ⌜ ((r .tag ≡ 0 → ⊥) → (how top : ℕ) → Alike tag top a b → r ≡ foundOf (binaryOf 9 how (found tag a) (found tag b))) ⌝ }
+{
+    if a < b {
+        return Found { tag: 0, bits: 0 };
+    }
+    Found { tag, bits: a - b }
+}
+
+// The short way of two unsigned integers of one kind, by their bits alone; tag 0 where it does not lead to an answer.
+fn short(opcode: u64, how: u64, x: Found, y: Found) -> Found
+    ensures { λ r. ⌜ ((r .tag ≡ 0 → ⊥) → r ≡ foundOf (binaryOf opcode how x y)) ⌝ }
+{
+    let top = greatest(x.tag);
+    if top == 0 {
+        return Found { tag: 0, bits: 0 };
+    }
+    if x.tag != y.tag {
+        return Found { tag: 0, bits: 0 };
+    }
+    if top < x.bits {
+        return Found { tag: 0, bits: 0 };
+    }
+    if top < y.bits {
+        return Found { tag: 0, bits: 0 };
+    }
+    match opcode {
+        6 => order(how, x.bits, y.bits),
+        8 => sum(x.tag, top, x.bits, y.bits),
+        9 => difference(x.tag, x.bits, y.bits),
+        _ => Found { tag: 0, bits: 0 },
+    }
+}
+
 // Two operands' values, the first's refusal first.
 pub fn binary(opcode: u64, how: u64, x: Found, y: Found) -> Found
     ensures { λ r. ⌜ r ≡ foundOf (binaryOf opcode how x y) ⌝ }
 {
+    let quick = short(opcode, how, x, y);
+    if quick.tag != 0 {
+        return quick;
+    }
     if x.tag == 0 {
         return x;
     }
