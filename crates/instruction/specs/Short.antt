@@ -1,5 +1,8 @@
 -- What the short ways of the code are given.
-use Prim.Native.Nat.{ℕ, _≤_}
+use Prim.Native.Nat.{ℕ, _+_, _*_, _≤_, _<_}
+use mathlib.Core.List.{List}
+use mathlib.Core.Path.{_≡_}
+use lib.ListN.{length, getD}
 
 -- "2 U8, 3 U16, 4 U32, 5 U64": a tag, and the greatest number of its kind
 pub data Unsigned : (tag top : ℕ) → Type 0 where
@@ -13,3 +16,9 @@ pub record Alike (tag top a b : ℕ) : Type 0 where
   pub kind : Unsigned tag top
   pub first : a ≤ top
   pub second : b ≤ top
+
+-- n pairs of numbers of one byte, from this place on
+pub record Pairs (s : List ℕ) (at n : ℕ) : Type 0 where
+  pub some : at ≡ 0 → ⊥
+  pub room : at + n * 2 ≤ length s
+  pub low : (i : ℕ) → at ≤ i → i < at + n * 2 → getD s i 0 < 128

@@ -17,7 +17,8 @@ pub struct Operand {
     pub next: usize,
 }
 
-fn wide(x: u8) -> u64
+// A byte as a number.
+pub fn wide(x: u8) -> u64
     ensures { λ r. ⌜ r ≡ x ⌝ }
 {
     x as u64

@@ -1,13 +1,19 @@
 // One instruction: its fields are read again at its place, and its parts done in order. The registers that an instruction
 // is given have the next place already; a refusal leaves every table as it stood.
 ghost use mathlib.Core.Path.{_≡_};
+ghost use mathlib.Core.Bool.{true};
+ghost use Prim.Native.Nat.{ℕ, _≤_, _<_};
+ghost use lib.ListN.{length, getD};
 ghost use Rattle.memory.specs.Tables.{both};
+ghost use Rattle.instruction.specs.Decode.{fieldAt};
+ghost use Rattle.instruction.specs.Short.{Pairs};
 ghost use Rattle.instruction.specs.Code.{finishedOf, assignedOf, wentOf, jumpedOf, keyOf, branchOf, switchedOf, middleOf, combinedOf, changedOf};
 use crate::compute::binary;
 use crate::compute::unary;
 use crate::field::Field;
 use crate::field::read_field;
 use crate::field::read_operand;
+use crate::field::wide;
 use crate::variables::Found;
 use crate::variables::evaluate;
 use crate::variables::set_variable;
@@ -79,10 +85,73 @@ pub fn key(v: Found) -> Found
     v
 }
 
+fn larger(a: u8, b: u8) -> u8
+    ensures { λ r. ⌜ (a ≤ r) × (b ≤ r) ⌝ }
+{
+    if a < b {
+        return b;
+    }
+    a
+}
+
+// The greatest of the bytes from `start` up to `end`.
+fn greatest_byte(image: &[u8], start: usize, end: usize) -> u8
+    requires { ⌜ end ≤ length (now image) ⌝ }
+    ensures { λ r. ⌜ ((i : ℕ) → start ≤ i → i < end → getD (now (image .entry)) i 0 ≤ r) ⌝ }
+{
+    let mut greatest = 0u8;
+    let mut at = start;
+    while at < end {
+        greatest = larger(greatest, image[at]);
+        at += 1;
+    }
+    greatest
+}
+
+// Whether the branches are many, and each a number and a label of one byte.
+fn is_short(image: &[u8], start: usize, count: u64) -> bool
+    ensures { λ r. ⌜ (r ≡ true → Pairs (now (image .entry)) start count) ⌝ }
+{
+    if count < 8 {
+        return false;
+    }
+    if start == 0 {
+        return false;
+    }
+    if image.len() < start {
+        return false;
+    }
+    if (((image.len() - start) / 2) as u64) < count {
+        return false;
+    }
+    let end = start + count as usize * 2;
+    greatest_byte(image, start, end) < 128
+}
+
+// Where the label of the first of `count` such branches with this number stands, or the default.
+fn label_place(image: &[u8], start: usize, count: u64, bits: u64) -> usize
+    requires { ⌜ Pairs (now image) start count ⌝ }
+    ensures { λ r. ⌜ fieldAt (now (image .entry)) r ≡ branchOf (now (image .entry)) count bits start ⌝ }
+{
+    let mut at = start;
+    let mut left = count;
+    while 0 < left {
+        if wide(image[at]) == bits {
+            return at + 1;
+        }
+        at += 2;
+        left -= 1;
+    }
+    at
+}
+
 // The label of the first of `count` branches with this number, or the default.
 pub fn branch(image: &[u8], start: usize, count: u64, bits: u64) -> Field
     ensures { λ r. ⌜ r ≡ branchOf (now (image .entry)) count bits start ⌝ }
 {
+    if is_short(image, start, count) {
+        return read_field(image, label_place(image, start, count, bits));
+    }
     let mut at = start;
     let mut left = count;
     while 0 < left {
