@@ -1,6 +1,7 @@
 -- The sequences are accepted, and answered as they say, by computing; and the history tells the same.
 use mathlib.Core.Path.{_≡_, refl, sym, _∙_}
 use Rattle.value.specs.Answer.{need, found, _>>=_}
+use Rattle.value.specs.Refusal.{notSound}
 use Rattle.value.specs.Value.{kindOf, tag, size, family, isScalar, isBadChar, leBytes, leNumber, bytesOf, fromBytes}
 use Rattle.image.specs.Program.{flatten}
 use Rattle.memory.specs.Memory as Memory
@@ -12,10 +13,10 @@ use Rattle.memory.specs.Sound.{rising, goodVar, goodBack, goodBacks, goodValue,
 use Rattle.machine.specs.Sound.{all, bytesIn, sound}
 use Rattle.value.specs.Tags.{holds}
 use Rattle.machine.specs.Accepted.{given, goodOperand, goodOptional, goodTo, goodInstruction, accepted, acceptedAsk}
-use Rattle.machine.specs.Asks.{changes, shows, steps, goes, lays, ask, replies}
+use Rattle.machine.specs.Asks.{toAllocate, refusal, turn, changes, shows, steps, goes, lays, ask, replies}
 use Rattle.machine.specs.Entries.{enter, answers}
 use Rattle.machine.specs.Demand.{Accepted}
-use Rattle.machine.specs.Sequence.{asked, answered, entered, replied}
+use Rattle.machine.specs.Sequence.{asked, answered, entered, replied, beyond}
 use Rattle.machine.proofs.Demand.{replies-are-told}
 
 pub asked-accepted : Accepted asked
@@ -40,3 +41,8 @@ entered-replied = refl
 
 pub entered-told : replies recalled entered (M.fresh recalled) ≡ replied
 entered-told = sym (replies-are-told entered entered-accepted) ∙ entered-replied
+
+-- "10 state not sound", before what is asked
+pub beyond-refused : enter (toAllocate 0) beyond ≡ turn (refusal notSound) beyond
+unfolding enter sound soundMachine soundMemory rising goodVar goodBack goodBacks Memory.fresh sum liveCount liveBytes
+beyond-refused = refl

@@ -7,7 +7,8 @@ use Rattle.value.specs.Refusal.{frameGone, running, idle, noFunction, wrongArgu
 use Rattle.value.specs.Value.{IrType, Value, value, bool, u8, u32, char, pointer}
 use Rattle.image.specs.Program.{Program, Item, variable, literal, Assign, Call, Return, Write}
 use Rattle.memory.specs.Live.{listed}
-use Rattle.machine.specs.Machine.{returned, paused, stopped}
+use Rattle.memory.specs.Memory as Memory
+use Rattle.machine.specs.Machine.{Machine, unset, returned, paused, stopped}
 use Rattle.machine.specs.Asks.{Ask, toAllocate, toStart, toStep, toRun, toRead, toList, Reply, done, gave, bytes, ran, lists, refusal}
 use Rattle.machine.specs.Cases.{plain, of}
 
@@ -113,3 +114,7 @@ replied =
     ∷ ran (stopped neverSet) 0
     ∷ refusal running
     ∷ []
+
+-- a state that is not sound: its next place is 4,097
+abbrev pub beyond : Machine Memory.Memory
+beyond = record { memory = Memory.fresh; running = false; place = 4097; vars = unset }
