@@ -1,13 +1,12 @@
 -- Demand 3's live list is the table's: the table shows, record by record, what `host_list` tells in slices as long as the table, so `code-lists-as-told` says what it shows.
-use Prim.Native.Nat.{ℕ, _≤_, _<_, min}
+use Prim.Native.Nat.{ℕ, _≤_, min}
 use native.Mathlib.Nat.{le-min}
-use mathlib.Core.Bool.{Bool, true, false}
-use mathlib.Core.Path.{_≡_, refl, sym, ap, subst, _∙_}
+use mathlib.Core.Bool.{true, false}
+use mathlib.Core.Path.{_≡_, refl, sym, ap, _∙_}
 use mathlib.Core.List.{List}
 use lib.ListN.{getD, length, replicate, length-replicate}
 use lib.Dec.{leb}
 use borrow.Author.Tests.{leb-true}
-use Rattle.value.specs.Refusal.{notSound, shortTable}
 use Rattle.memory.specs.Live.{Live, listed}
 use Rattle.memory.specs.View.{tab, liveIn}
 use Rattle.memory.specs.Tables.{State, roomyOf, listedOf, soundOf}
@@ -20,14 +19,13 @@ use Rattle.machine.specs.Asks.{Ask, Reply, lists, refusal}
 use Rattle.machine.specs.History.{toldList}
 use Rattle.machine.specs.Demand.{tells}
 use Rattle.eval.specs.Host.{hostListed}
-use Rattle.agree.specs.Turns.{listedReply}
-use Rattle.promise.specs.Calls.{callList, call, room}
+use Rattle.promise.specs.Calls.{callList, call}
 use Rattle.promise.specs.Promised.{After}
 use Rattle.promise.proofs.Told.{code-lists-as-told}
-use Rattle.live_table.specs.Table.{Tabled, recordAt, filled, tabledOf}
+use Rattle.live_table.specs.Table.{recordAt, tabledOf}
 use Rattle.live_table.specs.declared.PointerRecord.{PointerRecord}
 use Rattle.live_table.proofs.Filled.{filled-below}
-use Rattle.live_table.proofs.Listed.{sound-tables, rowIn, listed-done, listed-row}
+use Rattle.live_table.proofs.Listed.{sound-tables, listed-done, listed-row}
 
 -- a record, and no record, in the machine's words
 abbrev pub liveOf : PointerRecord → Live

@@ -13,7 +13,7 @@ use Rattle.image.specs.Parse.{Got, took, refused, andThen}
 use Rattle.image.specs.Number.{number}
 use Rattle.image.specs.Fields.{such, atMost, known, meant}
 use Rattle.image.specs.Image.{Counts, header, versions}
-use Rattle.image.specs.Answer.{shape, after, orElse, walk, placeOf}
+use Rattle.image.specs.Answer.{shape, after, orElse, placeOf}
 use Rattle.image.specs.declared.field.Step.{Step}
 use Rattle.image.specs.declared.field.Step.the-variants.{At, Stop}
 use Rattle.loader.specs.declared.Counts as Code
@@ -22,7 +22,6 @@ use Rattle.loader.specs.Tables.{Heads}
 use Rattle.loader.proofs.Turn.{never, then-took}
 use Rattle.loader.proofs.Functions.{heads}
 use Rattle.reader.specs.Header.{tested, begun, headed, answered, answerOf, Reads}
-use Rattle.reader.specs.declared.Headed.{Headed}
 
 stopped : {A : Type 0} {k p at : ℕ} → Stop k p ≡ At at → A
 stopped h = absurd (let z : _≡_ {A = ℕ} 0 1 = cc in omega arith)

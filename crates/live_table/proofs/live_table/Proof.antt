@@ -65,22 +65,22 @@ use Rattle.live_table.proofs.PointerRecord as T
 use Rattle.live_table.proofs.PointerRecord.Laws as T′
 use Rattle.live_table.proofs.Told as D
 use Rattle.live_table.proofs.Told.Laws as D′
-use Rattle.live_table.proofs.tell as tel
-use Rattle.live_table.proofs.tell.Symbol as tel-def
+use Rattle.live_table.proofs.tell as tell
+use Rattle.live_table.proofs.tell.Symbol as tell-def
 use Rattle.live_table.proofs.tell.Symbol.{name as #live_table·tell}
-use Rattle.live_table.proofs.tell.Met as tel-thm
-use Rattle.live_table.proofs.count_of as cnt
-use Rattle.live_table.proofs.count_of.Symbol as cnt-def
+use Rattle.live_table.proofs.tell.Met as tell-thm
+use Rattle.live_table.proofs.count_of as counts
+use Rattle.live_table.proofs.count_of.Symbol as counts-def
 use Rattle.live_table.proofs.count_of.Symbol.{name as #live_table·count-of}
-use Rattle.live_table.proofs.count_of.Met as cnt-thm
-use Rattle.live_table.proofs.record_at as rec
-use Rattle.live_table.proofs.record_at.Symbol as rec-def
+use Rattle.live_table.proofs.count_of.Met as counts-thm
+use Rattle.live_table.proofs.record_at as records
+use Rattle.live_table.proofs.record_at.Symbol as records-def
 use Rattle.live_table.proofs.record_at.Symbol.{name as #live_table·record-at}
-use Rattle.live_table.proofs.record_at.Met as rec-thm
-use Rattle.live_table.proofs.answer_of as ans
-use Rattle.live_table.proofs.answer_of.Symbol as ans-def
+use Rattle.live_table.proofs.record_at.Met as records-thm
+use Rattle.live_table.proofs.answer_of as answers
+use Rattle.live_table.proofs.answer_of.Symbol as answers-def
 use Rattle.live_table.proofs.answer_of.Symbol.{name as #live_table·answer-of}
-use Rattle.live_table.proofs.answer_of.Met as ans-thm
+use Rattle.live_table.proofs.answer_of.Met as answers-thm
 use Rattle.live_table.proofs.live_table.Key.{name as #live_table·live-table}
 use Rattle.live_table.proofs.live_table as self
 use Rattle.live_table.proofs.live_table.Statement as stated
@@ -112,16 +112,16 @@ same-tabled x r l e f = rw (e, f) refl
 module _ {M : Type 1} (𝓤 : URA M) (H : Heap 𝓤) (A : Atoms 𝓤) (mem : Memory → SProp 𝓤) (run : Routine → Fun 𝓤) where
   -- the contracts that the proof cites
   abbrev Tell : Contract 𝓤
-  Tell = tripleOf 𝓤 H A tel.signature (tel.spec 𝓤 H A mem run)
+  Tell = tripleOf 𝓤 H A tell.signature (tell.spec 𝓤 H A mem run)
 
   abbrev Count : Contract 𝓤
-  Count = tripleOf 𝓤 H A cnt.signature (cnt.spec 𝓤 H A mem run)
+  Count = tripleOf 𝓤 H A counts.signature (counts.spec 𝓤 H A mem run)
 
   abbrev RecordAt : Contract 𝓤
-  RecordAt = tripleOf 𝓤 H A rec.signature (rec.spec 𝓤 H A mem run)
+  RecordAt = tripleOf 𝓤 H A records.signature (records.spec 𝓤 H A mem run)
 
   abbrev Answer : Contract 𝓤
-  Answer = tripleOf 𝓤 H A ans.signature (ans.spec 𝓤 H A mem run)
+  Answer = tripleOf 𝓤 H A answers.signature (answers.spec 𝓤 H A mem run)
 
 module _ {M : Type 1} (𝓤 : URA M) (H : Heap 𝓤) (A : Atoms 𝓤) (W : Given 𝓤 H A) (mem : Memory → SProp 𝓤) (run : Routine → Fun 𝓤) (κ₀ κ₁ : Lft) (q₀ q₁ : Share) (b o : ℕ) (γ : GName) (ys : List PointerRecord) (m : Registers) (st fr bo ps vs : RefT (List ℕ))
     (g : Room T.the-row (length ys)) (m-is : Is R.the-row m (R′.lowered m ∷ [])) (st-is : Is (ShrSlice (named 0) κ₀ u8) st (sliceVal (st .ptr) (length (st .now)) ∷ [])) (fr-is : Is (ShrSlice (named 0) κ₀ u64) fr (sliceVal (fr .ptr) (length (fr .now)) ∷ [])) (bo-is : Is (ShrSlice (named 0) κ₀ u64) bo (sliceVal (bo .ptr) (length (bo .now)) ∷ [])) (ps-is : Is (ShrSlice (named 0) κ₀ u64) ps (sliceVal (ps .ptr) (length (ps .now)) ∷ [])) (vs-is : Is (ShrSlice (named 0) κ₀ u64) vs (sliceVal (vs .ptr) (length (vs .now)) ∷ [])) where
@@ -194,7 +194,7 @@ module _ {M : Type 1} (𝓤 : URA M) (H : Heap 𝓤) (A : Atoms 𝓤) (W : Given
   abbrev to-tell : Tell 𝓤 H A mem run .Ghost
   to-tell = (((κ₀, tt), (q₀, tt), tt, tell-args, tell-vals), tt)
 
-  asked : ent 𝓤 (onEntry 𝓤 H A tel.signature (κ₀, tt) (q₀, tt) tell-args tell-vals) (Tell 𝓤 H A mem run .pre to-tell)
+  asked : ent 𝓤 (onEntry 𝓤 H A tell.signature (κ₀, tt) (q₀, tt) tell-args tell-vals) (Tell 𝓤 H A mem run .pre to-tell)
   asked = qed W ((‵ (flft κ₀ q₀) ⊛ ‵ ftrue) ∷ ‵ (owns (R.the-row ∷ ShrSlice (named 0) κ₀ u8 ∷ ShrSlice (named 0) κ₀ u64 ∷ ShrSlice (named 0) κ₀ u64 ∷ ShrSlice (named 0) κ₀ u64 ∷ ShrSlice (named 0) κ₀ u64 ∷ usize ∷ []) tell-args tell-vals) ∷ []) ∵ join ! $ frame ! $ done !
 
   -- what the slices own is had twice, and once is kept
@@ -214,8 +214,8 @@ module _ {M : Type 1} (𝓤 : URA M) (H : Heap 𝓤) (A : Atoms 𝓤) (W : Given
       owned ! R.the-row (Is R.the-row) (LL.makes R.the-type R′.the-plain 𝓤 H A) m _ m-is $ fjoin ! $
       nothing ! $ move ! (3 ∷ 0 ∷ []) $ join ! $ use2 W (raw (Tell 𝓤 H A mem run .pre to-tell)) asked $ frame ! $ done !
 
-  tell-said : (r : Told) → ent 𝓤 (ensured 𝓤 H A tel.ended (tel.clauses 𝓤 H A mem run) (κ₀, tt) tell-args tt r) (fact 𝓤 (Tells t (length ys) r))
-  tell-said r = exE 𝓤 _ (λ ws. snd∗ 𝓤 (sem 𝓤 H A (lasts tel.ended (κ₀, tt) tell-args ws)) (fact 𝓤 (Tells t (length ys) r)))
+  tell-said : (r : Told) → ent 𝓤 (ensured 𝓤 H A tell.ended (tell.clauses 𝓤 H A mem run) (κ₀, tt) tell-args tt r) (fact 𝓤 (Tells t (length ys) r))
+  tell-said r = exE 𝓤 _ (λ ws. snd∗ 𝓤 (sem 𝓤 H A (lasts tell.ended (κ₀, tt) tell-args ws)) (fact 𝓤 (Tells t (length ys) r)))
 
   -- the list that was told, with its machine value
   module _ (r : Told) (u : Val) (r-is : Is D.the-row r (u ∷ [])) (tells : Tells t (length ys) r) where
@@ -232,8 +232,8 @@ module _ {M : Type 1} (𝓤 : URA M) (H : Heap 𝓤) (A : Atoms 𝓤) (W : Given
     goes-count : ent 𝓤 (emp 𝓤) (Count 𝓤 H A mem run .pre to-count)
     goes-count = qed W [] ∵ nothing ! $ owned ! D.the-row (Is D.the-row) (LL.makes D.the-type D′.the-plain 𝓤 H A) r _ r-is $ fjoin ! $ nothing ! $ join ! $ frame ! $ done !
 
-    count-said : (c : ℕ) → ent 𝓤 (ensured 𝓤 H A cnt.ended (cnt.clauses 𝓤 H A mem run) tt (r, tt) tt c) (fact 𝓤 (c ≡ n))
-    count-said c = exE 𝓤 _ (λ ws. snd∗ 𝓤 (sem 𝓤 H A (lasts cnt.ended tt (r, tt) ws)) (fact 𝓤 (c ≡ n)))
+    count-said : (c : ℕ) → ent 𝓤 (ensured 𝓤 H A counts.ended (counts.clauses 𝓤 H A mem run) tt (r, tt) tt c) (fact 𝓤 (c ≡ n))
+    count-said c = exE 𝓤 _ (λ ws. snd∗ 𝓤 (sem 𝓤 H A (lasts counts.ended tt (r, tt) ws)) (fact 𝓤 (c ≡ n)))
 
     abbrev to-answer : Answer 𝓤 H A mem run .Ghost
     to-answer = ((tt, tt, tt, (r, tt), (u ∷ [], tt)), tt)
@@ -241,8 +241,8 @@ module _ {M : Type 1} (𝓤 : URA M) (H : Heap 𝓤) (A : Atoms 𝓤) (W : Given
     goes-answer : ent 𝓤 (emp 𝓤) (Answer 𝓤 H A mem run .pre to-answer)
     goes-answer = qed W [] ∵ nothing ! $ owned ! D.the-row (Is D.the-row) (LL.makes D.the-type D′.the-plain 𝓤 H A) r _ r-is $ fjoin ! $ nothing ! $ join ! $ frame ! $ done !
 
-    answer-said : (z : Outcome) → ent 𝓤 (ensured 𝓤 H A ans.ended (ans.clauses 𝓤 H A mem run) tt (r, tt) tt z) (fact 𝓤 (z ≡ r .answer))
-    answer-said z = exE 𝓤 _ (λ ws. snd∗ 𝓤 (sem 𝓤 H A (lasts ans.ended tt (r, tt) ws)) (fact 𝓤 (z ≡ r .answer)))
+    answer-said : (z : Outcome) → ent 𝓤 (ensured 𝓤 H A answers.ended (answers.clauses 𝓤 H A mem run) tt (r, tt) tt z) (fact 𝓤 (z ≡ r .answer))
+    answer-said z = exE 𝓤 _ (λ ws. snd∗ 𝓤 (sem 𝓤 H A (lasts answers.ended tt (r, tt) ws)) (fact 𝓤 (z ≡ r .answer)))
 
     abbrev to-record : ℕ → RecordAt 𝓤 H A mem run .Ghost
     to-record k = ((tt, tt, tt, (r, (k, tt)), (u ∷ [], (vint w64 k ∷ [], tt))), tt)
@@ -251,8 +251,8 @@ module _ {M : Type 1} (𝓤 : URA M) (H : Heap 𝓤) (A : Atoms 𝓤) (W : Given
     goes-record k fits within =
         qed W [] ∵ says ! within $ nothing ! $ frame ! $ nothing ! $ owned ! usize (Is usize) (uint-makes 𝓤 H A W w64) k _ (refl, fits) $ fjoin ! $ owned ! D.the-row (Is D.the-row) (LL.makes D.the-type D′.the-plain 𝓤 H A) r _ r-is $ fjoin ! $ done !
 
-    record-said : (k : ℕ) (p : PointerRecord) → ent 𝓤 (ensured 𝓤 H A rec.ended (rec.clauses 𝓤 H A mem run) tt (r, (k, tt)) tt p) (fact 𝓤 (p ≡ rowOf r k))
-    record-said k p = exE 𝓤 _ (λ ws. snd∗ 𝓤 (sem 𝓤 H A (lasts rec.ended tt (r, (k, tt)) ws)) (fact 𝓤 (p ≡ rowOf r k)))
+    record-said : (k : ℕ) (p : PointerRecord) → ent 𝓤 (ensured 𝓤 H A records.ended (records.clauses 𝓤 H A mem run) tt (r, (k, tt)) tt p) (fact 𝓤 (p ≡ rowOf r k))
+    record-said k p = exE 𝓤 _ (λ ws. snd∗ 𝓤 (sem 𝓤 H A (lasts records.ended tt (r, (k, tt)) ws)) (fact 𝓤 (p ≡ rowOf r k)))
 
     -- from what is had at exit to the `post` of `walkOf`
     exits : (z : Outcome) (w : Val) → z ≡ r .answer
@@ -280,7 +280,7 @@ module _ {M : Type 1} (𝓤 : URA M) (H : Heap 𝓤) (A : Atoms 𝓤) (W : Given
     Nearer-wf : WellFounded Nearer
     Nearer-wf = InvImage·wf (λ (i : Upto). n - i .0) (Nat·lt-wfRel .wf)
 
-    module _ (𝓣 : Tables 𝓤 H) (known-tel : Triple 𝓤 (𝓣 .C #live_table·tell) (Tell 𝓤 H A mem run)) (known-cnt : Triple 𝓤 (𝓣 .C #live_table·count-of) (Count 𝓤 H A mem run)) (known-rec : Triple 𝓤 (𝓣 .C #live_table·record-at) (RecordAt 𝓤 H A mem run)) (known-ans : Triple 𝓤 (𝓣 .C #live_table·answer-of) (Answer 𝓤 H A mem run)) where
+    module _ (𝓣 : Tables 𝓤 H) (known-tell : Triple 𝓤 (𝓣 .C #live_table·tell) (Tell 𝓤 H A mem run)) (known-counts : Triple 𝓤 (𝓣 .C #live_table·count-of) (Count 𝓤 H A mem run)) (known-records : Triple 𝓤 (𝓣 .C #live_table·record-at) (RecordAt 𝓤 H A mem run)) (known-answers : Triple 𝓤 (𝓣 .C #live_table·answer-of) (Answer 𝓤 H A mem run)) where
       abbrev C : Calls 𝓤 H
       C = 𝓣 .C
 
@@ -310,8 +310,8 @@ module _ {M : Type 1} (𝓤 : URA M) (H : Heap 𝓤) (A : Atoms 𝓤) (W : Given
             assigns ! (bin ! (load ! (from ! (stop !)) (look ! 14 refl)) (load ! (from ! (stop !)) (look ! 16 refl)) tt) (from ! (stop !)) (init ! 12 refl (tt, tt)) $
             rewrite ! 12 (λ (y : Bool). ‵ (fat fullShare tyBool l₁₂ 0 (vbool y))) test refl $ stays ! (load ! (from ! (stop !)) (look ! 12 refl)) $
             use0 W (raw (RecordAt 𝓤 H A mem run .pre (to-record (i .0)))) (goes-record (i .0) k-fits (tells .in-arrays (i .0) less)) $
-            calls-at ! fm (RecordAt 𝓤 H A mem run) known-rec (to-record (i .0)) (and-then ! (load ! (from ! (stop !)) (look ! 19 refl)) (and-then ! (load ! (from ! (stop !)) (look ! 15 refl)) (no-more !))) (λ y.
-            use1 W (later (some (λ (p : PointerRecord). (‵ ftrue ⊛ ‵ (T.the-row .own p (y ∷ []))) ⊛ raw (ensured 𝓤 H A rec.ended (rec.clauses 𝓤 H A mem run) tt (r, (i .0, tt)) tt p)))) (id⊢ 𝓤 _) $ await ! tt $ pick ! (λ p.
+            calls-at ! fm (RecordAt 𝓤 H A mem run) known-records (to-record (i .0)) (and-then ! (load ! (from ! (stop !)) (look ! 19 refl)) (and-then ! (load ! (from ! (stop !)) (look ! 15 refl)) (no-more !))) (λ y.
+            use1 W (later (some (λ (p : PointerRecord). (‵ ftrue ⊛ ‵ (T.the-row .own p (y ∷ []))) ⊛ raw (ensured 𝓤 H A records.ended (records.clauses 𝓤 H A mem run) tt (r, (i .0, tt)) tt p)))) (id⊢ 𝓤 _) $ await ! tt $ pick ! (λ p.
             split ! $ move ! (1 ∷ []) $ use1 W (raw (fact 𝓤 (p ≡ rowOf r (i .0)))) (record-said (i .0) p) $ heard ! (p ≡ rowOf r (i .0)) (λ e. split ! $ move ! (1 ∷ []) $
             -- [the record; true; the row; the open borrow; obs; auth; what the slices own; their token; _15; …]
             peeks ! T.the-row (Is T.the-row) (shows 𝓤 H A T.the-row) p (y ∷ []) (λ is.
@@ -323,8 +323,8 @@ module _ {M : Type 1} (𝓤 : URA M) (H : Heap 𝓤) (A : Atoms 𝓤) (W : Given
             rewrite ! 6 (λ (j : ℕ). ‵ (fat fullShare tyPtr l₁₅ 0 (vptr b j))) (sym (place-is 32 o (i .0))) refl $
             elem-out ! T.the-row (Is T.the-row) (shows 𝓤 H A T.the-row) (LL.vals T.the-type T′.the-laws) (LL.tells T.the-type T′.the-laws) fullShare (done-at (i .0)) (i .0) none b o in-row (λ _.
             -- [table[k]; what it owns; the others; the open borrow; obs; auth; what the slices own; their token; _15; …]
-            assigns ! (of-opd ! (load ! (from ! (stop !)) (look ! 12 refl))) (from ! (hop ! (look ! 8 refl) (stop !))) (store-raw ! 0 refl (LL.lawful T.the-type T′.the-laws 𝓤 H A W .typed (recordAt (t .memory) (i .0)) _ (rec-is p y (e ∙ tells .rows (i .0) less) is) .0)) $
-            move ! (1 ∷ []) $ drop ! $ owned ! T.the-row (Is T.the-row) (LL.makes T.the-type T′.the-plain 𝓤 H A) (recordAt (t .memory) (i .0)) _ (rec-is p y (e ∙ tells .rows (i .0) less) is) $ move ! (1 ∷ 0 ∷ []) $
+            assigns ! (of-opd ! (load ! (from ! (stop !)) (look ! 12 refl))) (from ! (hop ! (look ! 8 refl) (stop !))) (store-raw ! 0 refl (LL.lawful T.the-type T′.the-laws 𝓤 H A W .typed (recordAt (t .memory) (i .0)) _ (record-is p y (e ∙ tells .rows (i .0) less) is) .0)) $
+            move ! (1 ∷ []) $ drop ! $ owned ! T.the-row (Is T.the-row) (LL.makes T.the-type T′.the-plain 𝓤 H A) (recordAt (t .memory) (i .0)) _ (record-is p y (e ∙ tells .rows (i .0) less) is) $ move ! (1 ∷ 0 ∷ []) $
             elem-put ! T.the-row fullShare (done-at (i .0)) (i .0) (recordAt (t .memory) (i .0)) (T′.lowered (recordAt (t .memory) (i .0)) ∷ []) b o in-row $
             rewrite ! 0 (λ (zs : List PointerRecord). ‵ (row T.the-row fullShare zs b o)) (filled-more (recordAt (t .memory)) ys (i .0)) refl $
             assigns-last ! (bin ! (load ! (from ! (stop !)) (look ! 14 refl)) (lit ! tt) (record { fits = next-fits })) (from ! (stop !)) (store ! 14 refl (tt, record { fits = next-fits })) $
@@ -352,8 +352,8 @@ module _ {M : Type 1} (𝓤 : URA M) (H : Heap 𝓤) (A : Atoms 𝓤) (W : Given
             in-row : i .0 < length (done-at (i .0))
             in-row = subst (λ (j : ℕ). i .0 < j) (sym (filled-length (recordAt (t .memory)) ys (i .0))) in-table
 
-            rec-is : (p : PointerRecord) (y : Val) → p ≡ recordAt (t .memory) (i .0) → Is T.the-row p (y ∷ []) → Is T.the-row (recordAt (t .memory) (i .0)) (LL.vals T.the-type T′.the-laws (recordAt (t .memory) (i .0)))
-            rec-is p y e is = subst (λ (z : PointerRecord). Is T.the-row z (LL.vals T.the-type T′.the-laws z)) e (subst (Is T.the-row p) (LL.tells T.the-type T′.the-laws p (y ∷ []) is) is)
+            record-is : (p : PointerRecord) (y : Val) → p ≡ recordAt (t .memory) (i .0) → Is T.the-row p (y ∷ []) → Is T.the-row (recordAt (t .memory) (i .0)) (LL.vals T.the-type T′.the-laws (recordAt (t .memory) (i .0)))
+            record-is p y e is = subst (λ (z : PointerRecord). Is T.the-row z (LL.vals T.the-type T′.the-laws z)) e (subst (Is T.the-row p) (LL.tells T.the-type T′.the-laws p (y ∷ []) is) is)
 
         -- the turn that leaves the loop, and the rest of the body: `answer_of` is called, and the borrow is closed
         ends : (i : Upto) → i .0 ≡ n → ltb (i .0) n ≡ false → Sq W (At i) (runs C Λ En mir′.turn-1 (anyQ (Turned i)))
@@ -363,8 +363,8 @@ module _ {M : Type 1} (𝓤 : URA M) (H : Heap 𝓤) (A : Atoms 𝓤) (W : Given
             rewrite ! 12 (λ (y : Bool). ‵ (fat fullShare tyBool l₁₂ 0 (vbool y))) test refl $ leaves-loop ! (load ! (from ! (stop !)) (look ! 12 refl)) $ exec ! C Λ En mir′.t-6 (atRet En Post) $
             rewrite ! 0 (λ (k : ℕ). ‵ (row T.the-row fullShare (done-at k) b o)) all refl $
             use0 W (raw (Answer 𝓤 H A mem run .pre to-answer)) goes-answer $
-            calls-at ! fm (Answer 𝓤 H A mem run) known-ans to-answer (and-then ! (load ! (from ! (stop !)) (look ! 19 refl)) (no-more !)) (λ w.
-            use1 W (later (some (λ (z : Outcome). (‵ ftrue ⊛ ‵ (O.the-row .own z (w ∷ []))) ⊛ raw (ensured 𝓤 H A ans.ended (ans.clauses 𝓤 H A mem run) tt (r, tt) tt z)))) (id⊢ 𝓤 _) $ await ! tt $ pick ! (λ z.
+            calls-at ! fm (Answer 𝓤 H A mem run) known-answers to-answer (and-then ! (load ! (from ! (stop !)) (look ! 19 refl)) (no-more !)) (λ w.
+            use1 W (later (some (λ (z : Outcome). (‵ ftrue ⊛ ‵ (O.the-row .own z (w ∷ []))) ⊛ raw (ensured 𝓤 H A answers.ended (answers.clauses 𝓤 H A mem run) tt (r, tt) tt z)))) (id⊢ 𝓤 _) $ await ! tt $ pick ! (λ z.
             split ! $ move ! (1 ∷ []) $ use1 W (raw (fact 𝓤 (z ≡ r .answer))) (answer-said z) $ heard ! (z ≡ r .answer) (λ e. split ! $ move ! (1 ∷ []) $
             -- [the answer; true; the row; the open borrow; obs; auth; what the slices own; their token; _15; …]
             peeks ! O.the-row (Is O.the-row) (shows 𝓤 H A O.the-row) z (w ∷ []) (λ is.
@@ -388,8 +388,8 @@ module _ {M : Type 1} (𝓤 : URA M) (H : Heap 𝓤) (A : Atoms 𝓤) (W : Given
         fills : Sq W Heard (runs C Λ En mir′.t-3 (atRet En Post))
         fills =
             use0 W (raw (Count 𝓤 H A mem run .pre to-count)) goes-count $
-            calls-at ! fm (Count 𝓤 H A mem run) known-cnt to-count (and-then ! (load ! (from ! (stop !)) (look ! 19 refl)) (no-more !)) (λ w.
-            use1 W (later (some (λ (c : ℕ). (‵ ftrue ⊛ ‵ (usize .own c (w ∷ []))) ⊛ raw (ensured 𝓤 H A cnt.ended (cnt.clauses 𝓤 H A mem run) tt (r, tt) tt c)))) (id⊢ 𝓤 _) $ await ! tt $ pick ! (λ c.
+            calls-at ! fm (Count 𝓤 H A mem run) known-counts to-count (and-then ! (load ! (from ! (stop !)) (look ! 19 refl)) (no-more !)) (λ w.
+            use1 W (later (some (λ (c : ℕ). (‵ ftrue ⊛ ‵ (usize .own c (w ∷ []))) ⊛ raw (ensured 𝓤 H A counts.ended (counts.clauses 𝓤 H A mem run) tt (r, tt) tt c)))) (id⊢ 𝓤 _) $ await ! tt $ pick ! (λ c.
             split ! $ move ! (1 ∷ []) $ use1 W (raw (fact 𝓤 (c ≡ r .count))) (count-said c) $ heard ! (c ≡ r .count) (λ e. split ! $ move ! (1 ∷ []) $
             peeks ! usize (Is usize) (shows 𝓤 H A usize) c (w ∷ []) (λ is.
             land ! (from ! (stop !)) (init ! 18 refl (uint-lawful 𝓤 H A W w64 .typed c _ is .0)) $ rewrite ! 18 (λ (y : Val). ‵ (fat fullShare word l₁₀ 0 y)) (ap only (is .0) ∙ ap (vint w64) e) refl $ drop ! $ drop ! $
@@ -402,7 +402,7 @@ module _ {M : Type 1} (𝓤 : URA M) (H : Heap 𝓤) (A : Atoms 𝓤) (W : Given
             keep ! (0 ∷ 1 ∷ 2 ∷ 3 ∷ 8 ∷ 6 ∷ 10 ∷ 11 ∷ 12 ∷ 13 ∷ 14 ∷ 15 ∷ 16 ∷ 17 ∷ 18 ∷ 19 ∷ 20 ∷ 21 ∷ 22 ∷ 23 ∷ 24 ∷ 25 ∷ 26 ∷ 27 ∷ 28 ∷ 29 ∷ 30 ∷ 31 ∷ 32 ∷ 33 ∷ 34 ∷ 35 ∷ 36 ∷ 37 ∷ 38 ∷ 39 ∷ 40 ∷ 41 ∷ []) $ first ! $ blocks ! $
             loops ! 𝓣 Nearer Nearer-wf At (λ i. turn-by i (ltb (i .0) n) refl) (0, zero-le)))))
 
-  module _ (𝓣 : Tables 𝓤 H) (known-tel : Triple 𝓤 (𝓣 .C #live_table·tell) (Tell 𝓤 H A mem run)) (known-cnt : Triple 𝓤 (𝓣 .C #live_table·count-of) (Count 𝓤 H A mem run)) (known-rec : Triple 𝓤 (𝓣 .C #live_table·record-at) (RecordAt 𝓤 H A mem run)) (known-ans : Triple 𝓤 (𝓣 .C #live_table·answer-of) (Answer 𝓤 H A mem run)) (l₀ l₁ l₂ l₃ l₄ l₅ l₆ l₇ l₈ l₉ l₁₀ l₁₁ l₁₂ l₁₃ l₁₄ l₁₅ : ℕ) where
+  module _ (𝓣 : Tables 𝓤 H) (known-tell : Triple 𝓤 (𝓣 .C #live_table·tell) (Tell 𝓤 H A mem run)) (known-counts : Triple 𝓤 (𝓣 .C #live_table·count-of) (Count 𝓤 H A mem run)) (known-records : Triple 𝓤 (𝓣 .C #live_table·record-at) (RecordAt 𝓤 H A mem run)) (known-answers : Triple 𝓤 (𝓣 .C #live_table·answer-of) (Answer 𝓤 H A mem run)) (l₀ l₁ l₂ l₃ l₄ l₅ l₆ l₇ l₈ l₉ l₁₀ l₁₁ l₁₂ l₁₃ l₁₄ l₁₅ : ℕ) where
     abbrev En₀ : Env 𝓤 H
     En₀ = (O′.mir, l₀) ∷ (R′.mir, l₁) ∷ (bytesTy, l₂) ∷ (wordsTy, l₃) ∷ (wordsTy, l₄) ∷ (wordsTy, l₅) ∷ (wordsTy, l₆) ∷ (tableTy, l₇) ∷ (word, l₈) ∷ (D′.mir, l₉) ∷ (word, l₁₀) ∷ (word, l₁₁) ∷ (tyBool, l₁₂) ∷ (T′.mir, l₁₃) ∷ (word, l₁₄) ∷ (tyPtr, l₁₅) ∷ []
 
@@ -421,15 +421,15 @@ module _ {M : Type 1} (𝓤 : URA M) (H : Heap 𝓤) (A : Atoms 𝓤) (W : Given
         -- [what the slices own; the table; true; _15; …; _0; …; the tokens]
         move ! (35 ∷ []) $ split ! $ move ! (2 ∷ 0 ∷ []) $ use2 W (raw (Tell 𝓤 H A mem run .pre to-tell) ⊛ ‵ Slices) goes-tell $ split ! $
         -- [what `tell` asks; what the slices own; the table's token and true; the table; true; _15; …]
-        calls-at ! (fmOf 𝓤 H (W .laws) 𝓣) (Tell 𝓤 H A mem run) known-tel to-tell (and-then ! (load ! (from ! (stop !)) (look ! 33 refl)) (and-then ! (load ! (from ! (stop !)) (look ! 31 refl)) (and-then ! (load ! (from ! (stop !)) (look ! 29 refl)) (and-then ! (load ! (from ! (stop !)) (look ! 27 refl)) (and-then ! (load ! (from ! (stop !)) (look ! 25 refl)) (and-then ! (load ! (from ! (stop !)) (look ! 23 refl)) (and-then ! (load ! (from ! (stop !)) (look ! 19 refl)) (no-more !)))))))) (λ u.
-        use1 W (later (some (λ (r : Told). ((‵ (flft κ₀ q₀) ⊛ ‵ ftrue) ⊛ ‵ (D.the-row .own r (u ∷ []))) ⊛ raw (ensured 𝓤 H A tel.ended (tel.clauses 𝓤 H A mem run) (κ₀, tt) tell-args tt r)))) (id⊢ 𝓤 _) $ await ! tt $ pick ! (λ r.
+        calls-at ! (fmOf 𝓤 H (W .laws) 𝓣) (Tell 𝓤 H A mem run) known-tell to-tell (and-then ! (load ! (from ! (stop !)) (look ! 33 refl)) (and-then ! (load ! (from ! (stop !)) (look ! 31 refl)) (and-then ! (load ! (from ! (stop !)) (look ! 29 refl)) (and-then ! (load ! (from ! (stop !)) (look ! 27 refl)) (and-then ! (load ! (from ! (stop !)) (look ! 25 refl)) (and-then ! (load ! (from ! (stop !)) (look ! 23 refl)) (and-then ! (load ! (from ! (stop !)) (look ! 19 refl)) (no-more !)))))))) (λ u.
+        use1 W (later (some (λ (r : Told). ((‵ (flft κ₀ q₀) ⊛ ‵ ftrue) ⊛ ‵ (D.the-row .own r (u ∷ []))) ⊛ raw (ensured 𝓤 H A tell.ended (tell.clauses 𝓤 H A mem run) (κ₀, tt) tell-args tt r)))) (id⊢ 𝓤 _) $ await ! tt $ pick ! (λ r.
         split ! $ move ! (1 ∷ []) $ use1 W (raw (fact 𝓤 (Tells t (length ys) r))) (tell-said r) $ heard ! (Tells t (length ys) r) (λ tells. split ! $ move ! (1 ∷ []) $
         -- [the list; the slices' token and true; what the slices own; the table's token and true; the table; true; _15; …]
         peeks ! D.the-row (Is D.the-row) (shows 𝓤 H A D.the-row) r (u ∷ []) (λ r-is.
         land ! (from ! (stop !)) (init ! 18 refl (LL.lawful D.the-type D′.the-laws 𝓤 H A W .typed r _ r-is .0)) $ drop ! $ split ! $
-        fills r u r-is tells 𝓣 known-tel known-cnt known-rec known-ans l₀ l₁ l₂ l₃ l₄ l₅ l₆ l₇ l₈ l₉ l₁₀ l₁₁ l₁₂ l₁₃ l₁₄ l₁₅))))
+        fills r u r-is tells 𝓣 known-tell known-counts known-records known-answers l₀ l₁ l₂ l₃ l₄ l₅ l₆ l₇ l₈ l₉ l₁₀ l₁₁ l₁₂ l₁₃ l₁₄ l₁₅))))
 
-  module _ (𝓣 : Tables 𝓤 H) (known-tel : Triple 𝓤 (𝓣 .C #live_table·tell) (Tell 𝓤 H A mem run)) (known-cnt : Triple 𝓤 (𝓣 .C #live_table·count-of) (Count 𝓤 H A mem run)) (known-rec : Triple 𝓤 (𝓣 .C #live_table·record-at) (RecordAt 𝓤 H A mem run)) (known-ans : Triple 𝓤 (𝓣 .C #live_table·answer-of) (Answer 𝓤 H A mem run)) where
+  module _ (𝓣 : Tables 𝓤 H) (known-tell : Triple 𝓤 (𝓣 .C #live_table·tell) (Tell 𝓤 H A mem run)) (known-counts : Triple 𝓤 (𝓣 .C #live_table·count-of) (Count 𝓤 H A mem run)) (known-records : Triple 𝓤 (𝓣 .C #live_table·record-at) (RecordAt 𝓤 H A mem run)) (known-answers : Triple 𝓤 (𝓣 .C #live_table·answer-of) (Answer 𝓤 H A mem run)) where
     walk : ent 𝓤 (onEntry 𝓤 H A self.signature (κ₀, (κ₁, tt)) (q₀, (q₁, tt)) a vals) (WpFn 𝓤 H (𝓣 .C) (𝓣 .Λ) code.function (R′.lowered m ∷ v-st ∷ v-fr ∷ v-bo ∷ v-ps ∷ v-vs ∷ s ∷ []) Post)
     walk =
         qed W ((‵ (flft κ₀ q₀) ⊛ (‵ (flft κ₁ q₁) ⊛ ‵ ftrue)) ∷ ‵ (owns (R.the-row ∷ ShrSlice (named 0) κ₀ u8 ∷ ShrSlice (named 0) κ₀ u64 ∷ ShrSlice (named 0) κ₀ u64 ∷ ShrSlice (named 0) κ₀ u64 ∷ ShrSlice (named 0) κ₀ u64 ∷ MutSlice (named 1) κ₁ T.the-row ∷ []) a vals) ∷ []) ∵ enter ! (𝓣 .C) (𝓣 .Λ) code.function (R′.lowered m ∷ v-st ∷ v-fr ∷ v-bo ∷ v-ps ∷ v-vs ∷ s ∷ []) _ $
@@ -441,22 +441,22 @@ module _ {M : Type 1} (𝓤 : URA M) (H : Heap 𝓤) (A : Atoms 𝓤) (W : Given
         pass1 ! (init ! 20 refl (shr-slice-lawful 𝓤 H A W (named 0) κ₀ u64 .typed ps (v-ps ∷ []) ps-is .0)) $
         pass1 ! (init ! 18 refl (shr-slice-lawful 𝓤 H A W (named 0) κ₀ u64 .typed vs (v-vs ∷ []) vs-is .0)) $
         pass1 ! (init ! 16 refl (tt, (tt, (record { fits = g .0 }, tt)))) $ pass0 ! $
-        hears 𝓣 known-tel known-cnt known-rec known-ans l₀ l₁ l₂ l₃ l₄ l₅ l₆ l₇ l₈ l₉ l₁₀ l₁₁ l₁₂ l₁₃ l₁₄ l₁₅))))))))))))))))
+        hears 𝓣 known-tell known-counts known-records known-answers l₀ l₁ l₂ l₃ l₄ l₅ l₆ l₇ l₈ l₉ l₁₀ l₁₁ l₁₂ l₁₃ l₁₄ l₁₅))))))))))))))))
 
 module _ {M : Type 1} (𝓤 : URA M) (H : Heap 𝓤) (A : Atoms 𝓤) (W : Given 𝓤 H A) (mem : Memory → SProp 𝓤) (run : Routine → Fun 𝓤) where
   table-walks : (𝓣 : Tables 𝓤 H) → Triple 𝓤 (𝓣 .C #live_table·tell) (Tell 𝓤 H A mem run) → Triple 𝓤 (𝓣 .C #live_table·count-of) (Count 𝓤 H A mem run) → Triple 𝓤 (𝓣 .C #live_table·record-at) (RecordAt 𝓤 H A mem run) → Triple 𝓤 (𝓣 .C #live_table·answer-of) (Answer 𝓤 H A mem run)
       → Walks 𝓤 H A self.ended stayed (WpFn 𝓤 H (𝓣 .C) (𝓣 .Λ) code.function) (self.clauses 𝓤 H A mem run)
-  table-walks 𝓣 known-tel known-cnt known-rec known-ans = walked 𝓤 H A self.ended stayed (self.clauses 𝓤 H A mem run) (WpFn 𝓤 H (𝓣 .C) (𝓣 .Λ) code.function)
+  table-walks 𝓣 known-tell known-counts known-records known-answers = walked 𝓤 H A self.ended stayed (self.clauses 𝓤 H A mem run) (WpFn 𝓤 H (𝓣 .C) (𝓣 .Λ) code.function)
       (λ κs. (LL.vals R.the-type R′.the-laws, (slice-vals, (slice-vals, (slice-vals, (slice-vals, (slice-vals, (slice-vals, tt)))))))) (λ κs. (LL.tells R.the-type R′.the-laws, (shr-slice-tells (named 0) (κs .0) u8, (shr-slice-tells (named 0) (κs .0) u64, (shr-slice-tells (named 0) (κs .0) u64, (shr-slice-tells (named 0) (κs .0) u64, (shr-slice-tells (named 0) (κs .0) u64, (mut-slice-tells (named 1) (κs .1 .0) T.the-row, tt))))))))
       (λ κs qs bounds a h are. via 𝓤 _ (fst∗ 𝓤 _ (emp 𝓤))
-      (walk 𝓤 H A W mem run (κs .0) (κs .1 .0) (qs .0) (qs .1 .0) (a .1 .1 .1 .1 .1 .1 .0 .ptr .0) (a .1 .1 .1 .1 .1 .1 .0 .ptr .1) (a .1 .1 .1 .1 .1 .1 .0 .name) (a .1 .1 .1 .1 .1 .1 .0 .now) (a .0) (a .1 .0) (a .1 .1 .0) (a .1 .1 .1 .0) (a .1 .1 .1 .1 .0) (a .1 .1 .1 .1 .1 .0) (are .1 .1 .1 .1 .1 .1 .0 .0 .1) (are .0) (are .1 .0) (are .1 .1 .0) (are .1 .1 .1 .0) (are .1 .1 .1 .1 .0) (are .1 .1 .1 .1 .1 .0) 𝓣 known-tel known-cnt known-rec known-ans))
+      (walk 𝓤 H A W mem run (κs .0) (κs .1 .0) (qs .0) (qs .1 .0) (a .1 .1 .1 .1 .1 .1 .0 .ptr .0) (a .1 .1 .1 .1 .1 .1 .0 .ptr .1) (a .1 .1 .1 .1 .1 .1 .0 .name) (a .1 .1 .1 .1 .1 .1 .0 .now) (a .0) (a .1 .0) (a .1 .1 .0) (a .1 .1 .1 .0) (a .1 .1 .1 .1 .0) (a .1 .1 .1 .1 .1 .0) (are .1 .1 .1 .1 .1 .1 .0 .0 .1) (are .0) (are .1 .0) (are .1 .1 .0) (are .1 .1 .1 .0) (are .1 .1 .1 .1 .0) (are .1 .1 .1 .1 .1 .0) 𝓣 known-tell known-counts known-records known-answers))
 
 table-meets : {M : Type 1} (𝓤 : URA M) (H : Heap 𝓤) (A : Atoms 𝓤) → Given 𝓤 H A → (mem : Memory → SProp 𝓤) (run : Routine → Fun 𝓤) (𝓣 : Tables 𝓤 H)
     → Triple 𝓤 (𝓣 .C #live_table·tell) (Tell 𝓤 H A mem run) → Triple 𝓤 (𝓣 .C #live_table·count-of) (Count 𝓤 H A mem run) → Triple 𝓤 (𝓣 .C #live_table·record-at) (RecordAt 𝓤 H A mem run) → Triple 𝓤 (𝓣 .C #live_table·answer-of) (Answer 𝓤 H A mem run)
     → Meets 𝓤 H A self.signature (WpFn 𝓤 H (𝓣 .C) (𝓣 .Λ) code.function) (self.spec 𝓤 H A mem run)
-table-meets 𝓤 H A W mem run 𝓣 known-tel known-cnt known-rec known-ans =
+table-meets 𝓤 H A W mem run 𝓣 known-tell known-counts known-records known-answers =
     walk-meets 𝓤 H A self.ended stayed W (goes-none 𝓤 H A W 2 (λ _. R.the-row) yes (λ κs x f. refl), (goes-none-slice 𝓤 H A W 2 (0 ∷ []) tt (plain (λ _. u8)) yes, (goes-none-slice 𝓤 H A W 2 (0 ∷ []) tt (plain (λ _. u64)) yes, (goes-none-slice 𝓤 H A W 2 (0 ∷ []) tt (plain (λ _. u64)) yes, (goes-none-slice 𝓤 H A W 2 (0 ∷ []) tt (plain (λ _. u64)) yes, (goes-none-slice 𝓤 H A W 2 (0 ∷ []) tt (plain (λ _. u64)) yes, (goes-slice 𝓤 H A W 2 1 tt (plain (λ _. T.the-row)), tt))))))) (self.clauses 𝓤 H A mem run)
-    (WpFn 𝓤 H (𝓣 .C) (𝓣 .Λ) code.function) (WpFn-mono 𝓤 H (W .laws) 𝓣 code.function) (table-walks 𝓤 H A W mem run 𝓣 known-tel known-cnt known-rec known-ans)
+    (WpFn 𝓤 H (𝓣 .C) (𝓣 .Λ) code.function) (WpFn-mono 𝓤 H (W .laws) 𝓣 code.function) (table-walks 𝓤 H A W mem run 𝓣 known-tell known-counts known-records known-answers)
 
 pub live-table-spec : {M : Type 1} → stated.statement M
 unfolding code.routine tablesOf
@@ -464,7 +464,7 @@ live-table-spec 𝓤 H 𝓜 𝓖 𝓡 =
     entered 𝓤 H (tripleOf 𝓤 H (𝓖 .A) self.signature (self.spec 𝓤 H (𝓖 .A) (𝓜 .mem) (𝓡 .run)))
     (tables 𝓤 H 𝓜 𝓡 code.env .C) (tables 𝓤 H 𝓜 𝓡 code.env .Λ) #live_table·live-table code.function (code.unfolded 𝓤 H 𝓜 𝓡)
     (table-meets 𝓤 H (𝓖 .A) (givenOf 𝓤 H 𝓜 𝓖) (𝓜 .mem) (𝓡 .run) (tablesOf 𝓤 H 𝓜 (tables 𝓤 H 𝓜 𝓡 code.env))
-    (cited 𝓤 H (Tell 𝓤 H (𝓖 .A) (𝓜 .mem) (𝓡 .run)) 𝓜 𝓡 code.env #live_table·tell tel-def.routine code.calls-live-table·tell (tel-thm.met 𝓤 H 𝓜 𝓖 𝓡))
-    (cited 𝓤 H (Count 𝓤 H (𝓖 .A) (𝓜 .mem) (𝓡 .run)) 𝓜 𝓡 code.env #live_table·count-of cnt-def.routine code.calls-live-table·count-of (cnt-thm.met 𝓤 H 𝓜 𝓖 𝓡))
-    (cited 𝓤 H (RecordAt 𝓤 H (𝓖 .A) (𝓜 .mem) (𝓡 .run)) 𝓜 𝓡 code.env #live_table·record-at rec-def.routine code.calls-live-table·record-at (rec-thm.met 𝓤 H 𝓜 𝓖 𝓡))
-    (cited 𝓤 H (Answer 𝓤 H (𝓖 .A) (𝓜 .mem) (𝓡 .run)) 𝓜 𝓡 code.env #live_table·answer-of ans-def.routine code.calls-live-table·answer-of (ans-thm.met 𝓤 H 𝓜 𝓖 𝓡)))
+    (cited 𝓤 H (Tell 𝓤 H (𝓖 .A) (𝓜 .mem) (𝓡 .run)) 𝓜 𝓡 code.env #live_table·tell tell-def.routine code.calls-live-table·tell (tell-thm.met 𝓤 H 𝓜 𝓖 𝓡))
+    (cited 𝓤 H (Count 𝓤 H (𝓖 .A) (𝓜 .mem) (𝓡 .run)) 𝓜 𝓡 code.env #live_table·count-of counts-def.routine code.calls-live-table·count-of (counts-thm.met 𝓤 H 𝓜 𝓖 𝓡))
+    (cited 𝓤 H (RecordAt 𝓤 H (𝓖 .A) (𝓜 .mem) (𝓡 .run)) 𝓜 𝓡 code.env #live_table·record-at records-def.routine code.calls-live-table·record-at (records-thm.met 𝓤 H 𝓜 𝓖 𝓡))
+    (cited 𝓤 H (Answer 𝓤 H (𝓖 .A) (𝓜 .mem) (𝓡 .run)) 𝓜 𝓡 code.env #live_table·answer-of answers-def.routine code.calls-live-table·answer-of (answers-thm.met 𝓤 H 𝓜 𝓖 𝓡)))

@@ -48,7 +48,7 @@ use denote.Triple.Clauses.{ensured, lasts}
 use Rattle.image.specs.Number.{number}
 use Rattle.image.specs.Answer.{got, shape, placeOf}
 use Rattle.image.specs.declared.number.Number.{Number}
-use Rattle.reader.specs.Header.{headed, answered, Reads, Judges}
+use Rattle.reader.specs.Header.{headed, answered, Judges}
 use Rattle.reader.specs.declared.Reader.{Reader}
 use Rattle.reader.specs.declared.Headed.{Headed}
 use Rattle.reader.proofs.Reader as T

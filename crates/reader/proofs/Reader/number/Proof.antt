@@ -1,6 +1,6 @@
 -- `Reader::number` meets its contract: a walk of its MIR, by hand. The borrow is opened, `read_number` is called on the image and the place of the reader, the place is set to what `end_of` says, and the borrow is closed at that struct.
 -- The struct's cell is at its raw type while it is behind a borrow: `raw-at` makes it the struct's own for the walk, so that the slice in it is read whole, and `at-raw` makes it raw again.
-use mathlib.Core.Path.{_≡_, refl, ap, _∙_}
+use mathlib.Core.Path.{_≡_, refl, ap}
 use Prim.Native.Nat.{ℕ, _<_, _^_}
 use mathlib.Core.List.{List, [], _∷_}
 use lib.Dec.{T as Holds}
