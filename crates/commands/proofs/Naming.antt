@@ -2,7 +2,7 @@
 use Prim.Native.Nat.{ℕ, suc, _+_, _*_, _≤_, _<_, min}
 use native.Mathlib.Numerals.{add-one}
 use native.Mathlib.Omega.{arith}
-use mathlib.Core.Bool.{Bool, true, false}
+use mathlib.Core.Bool.{true, false}
 use mathlib.Core.Path.{_≡_, refl, sym, ap, ap₂, subst, _∙_}
 use mathlib.Core.List.{List, [], _∷_}
 use lib.ListN.{length, getD, drop, List·getD-eq-default, drop-of-length-le}
@@ -58,30 +58,6 @@ module _ (ws : List (List ℕ)) (command : ℕ) (e : command ≡ placeOf (getD w
   pub the-poke : {r : Spot} → command ≤ 11 → 11 ≤ command → r ≡ pokeRead ws → r ≡ nameRead ws
   unfolding nameRead
   the-poke h l q = rw (← e, le-ltb 11 command h, le-ltb command 11 l) q
-
-near : (b : Bool) (x y : Spot) → x .next ≤ 2 → y .next ≤ 2 → pick b x y .next ≤ 2
-near true x y p q = p
-near false x y p q = q
-
-poke-near : (ws : List (List ℕ)) → pokeRead ws .next ≤ 2
-unfolding pokeRead
-poke-near ws =
-    let what = placeOf (getD ws 1 []) (words pokeNames) in
-    near (ltb 10 what) (bad 1) (good (12 + what) 2) (omega arith) (omega arith)
-
-pub name-near : (ws : List (List ℕ)) → nameRead ws .next ≤ 2
-unfolding nameRead
-name-near ws =
-    let command = placeOf (getD ws 0 []) (words commandNames) in
-    near (ltb 11 command) (bad 0) (pick (ltb command 11) (good command 1) (pokeRead ws)) (omega arith)
-    (near (ltb command 11) (good command 1) (pokeRead ws) (omega arith) (poke-near ws))
-
-pub named-near : (s : Spot) (ws : List (List ℕ)) → s ≡ nameRead ws → s .next < 90
-named-near s ws e = omega (arith, ap (λ (t : Spot). t .next) e, name-near ws)
-
--- each part goes one word further at most
-pub end-near : (a b c d e : ℕ) → a < 90 → b ≤ a + 1 → c ≤ b + 1 → d ≤ c + 1 → e ≤ d + 1 → e < 100
-end-near a b c d e h p q r s = omega arith
 
 -- ---- the rows
 

@@ -1,5 +1,6 @@
 -- A part of a line and a line's end, by the tests of the code, over plain variables.
-use Prim.Native.Nat.{ℕ, _+_, _-_, _^_, _≤_, _<_}
+use Prim.Native.Nat.{ℕ, _+_, _-_, _*_, _^_, _≤_, _<_}
+use native.Mathlib.Decide.{decLe}
 use native.Mathlib.Omega.{arith}
 use mathlib.Core.Bool.{Bool, true, false, _&&_}
 use mathlib.Core.Path.{_≡_, refl, sym, ap, _∙_}
@@ -11,9 +12,9 @@ use borrow.Author.Tests.{eq-eqb, ne-eqb, le-leb, lt-leb, leb-true}
 use Rattle.value.specs.Answer.{pick}
 use Rattle.words.specs.Ascii.{ascii}
 use Rattle.words.specs.Number.{number, bounded, upTo}
-use Rattle.words.specs.Hex.{hexAnswer, hexBuffer}
-use Rattle.words.specs.Words.{same}
-use Rattle.words.specs.Kinds.{kindRead, bitsRead}
+use Rattle.words.specs.Hex.{isHex, hexAnswer, hexBuffer}
+use Rattle.words.specs.Words.{same, words}
+use Rattle.words.specs.Kinds.{name, kinds, names, kindFrom, kindRead, bitsRead}
 use Rattle.words.specs.Pairs.{Said, valuesFrom}
 use Rattle.words.specs.declared.Read.{Read}
 use Rattle.words.specs.declared.Read.the-variants as read
@@ -21,6 +22,7 @@ use Rattle.words.specs.declared.HexRead.{HexRead}
 use Rattle.words.specs.declared.HexRead.the-variants as hexRead
 use Rattle.words.specs.declared.Values.{Values}
 use Rattle.words.specs.declared.Values.the-variants as values
+use Rattle.words.proofs.Reading.{words-bound}
 use Rattle.commands.specs.Parts.{mosts, frameRead, varRead, partRead, good, bad, after, partAfter, endedAt, hexEnd, valuesEnd, endAfter, bytesAfter, tagsAfter, bitsAfter}
 use Rattle.commands.specs.declared.Spot.{Spot}
 
@@ -80,26 +82,51 @@ module _ (s d b : ℕ) (w : List ℕ) {r : Read} where
 
 -- ---- one part after the other
 
-abbrev pub Next : (sort depth : ℕ) → Spot → List (List ℕ) → Spot → Type 0
-Next sort depth s ws r = (r ≡ partAfter sort depth s ws) × (r .next ≤ s .next + 1)
-
 module _ (sort depth : ℕ) (s : Spot) (ws : List (List ℕ)) {r : Spot} where
-  pub no-part : s .bad ≡ 0 → sort ≡ 0 → r ≡ good 0 (s .next) → Next sort depth s ws r
+  pub no-part : s .bad ≡ 0 → sort ≡ 0 → r ≡ good 0 (s .next) → r ≡ partAfter sort depth s ws
   unfolding partAfter
-  no-part e f h = (rw (eq-eqb (s .bad) 0 e, eq-eqb sort 0 f) h, omega (arith, ap (λ (t : Spot). t .next) h))
+  no-part e f h = rw (eq-eqb (s .bad) 0 e, eq-eqb sort 0 f) h
 
   module _ (e : s .bad ≡ 0) (f : sort ≡ 0 → ⊥) where
-    pub a-part : (n : ℕ) → partRead sort depth (s .value) (getD ws (s .next) []) ≡ read.Number n → r ≡ good n (s .next + 1) → Next sort depth s ws r
+    pub a-part : (n : ℕ) → partRead sort depth (s .value) (getD ws (s .next) []) ≡ read.Number n → r ≡ good n (s .next + 1) → r ≡ partAfter sort depth s ws
     unfolding partAfter
-    a-part n g h = (rw (eq-eqb (s .bad) 0 e, ne-eqb sort 0 f, g) h, omega (arith, ap (λ (t : Spot). t .next) h))
+    a-part n g h = rw (eq-eqb (s .bad) 0 e, ne-eqb sort 0 f, g) h
 
-    pub bad-part : partRead sort depth (s .value) (getD ws (s .next) []) ≡ read.Bad → r ≡ bad (s .next) → Next sort depth s ws r
+    pub bad-part : partRead sort depth (s .value) (getD ws (s .next) []) ≡ read.Bad → r ≡ bad (s .next) → r ≡ partAfter sort depth s ws
     unfolding partAfter
-    bad-part g h = (rw (eq-eqb (s .bad) 0 e, ne-eqb sort 0 f, g) h, omega (arith, ap (λ (t : Spot). t .next) h))
+    bad-part g h = rw (eq-eqb (s .bad) 0 e, ne-eqb sort 0 f, g) h
 
-pub stuck : (sort depth : ℕ) (s : Spot) (ws : List (List ℕ)) → (s .bad ≡ 0 → ⊥) → Next sort depth s ws s
+pub stuck : (sort depth : ℕ) (s : Spot) (ws : List (List ℕ)) → (s .bad ≡ 0 → ⊥) → s ≡ partAfter sort depth s ws
 unfolding partAfter
-stuck sort depth s ws n = (rw (ne-eqb (s .bad) 0 n), omega arith)
+stuck sort depth s ws n = rw (ne-eqb (s .bad) 0 n)
+
+-- ---- a word that can be read is there, so there is a place after it
+
+either-bad : (b : Bool) → pick b read.Bad read.Bad ≡ read.Bad
+either-bad true = refl
+either-bad false = refl
+
+no-word-read : (s d b : ℕ) → partRead s d b [] ≡ read.Bad
+unfolding partRead number kindRead kindFrom names name kinds same
+no-word-read s d b = simp either-bad
+
+no-hex-read : (room : ℕ) → hexAnswer [] room ≡ hexRead.Bad
+unfolding hexAnswer isHex
+no-hex-read room = refl
+
+module _ (line : List ℕ) (k : ℕ) (l : length line * 1 < 2 ^ 63) where
+  missing : {A : Type 0} (read : List ℕ → A) {x : A} → (read [] ≡ x → ⊥) → read (getD (words line) k []) ≡ x → k + 1 < 2 ^ 64
+  missing read n e =
+      elim (decLe (length (words line)) k) [
+        | yes h ↦ absurd (n (ap read (sym (List·getD-eq-default (words line) [] {n = k} h)) ∙ e))
+        | no h ↦ omega (arith, words-bound line)
+      ]
+
+  pub part-there : (s d b n : ℕ) → partRead s d b (getD (words line) k []) ≡ read.Number n → k + 1 < 2 ^ 64
+  part-there s d b n e = missing (partRead s d b) (λ h. let q = no-word-read s d b in let z : _≡_ {A = ℕ} 0 1 = cc in omega arith) e
+
+  pub hex-there : (room n : ℕ) → hexAnswer (getD (words line) k []) room ≡ hexRead.Bytes n → k + 1 < 2 ^ 64
+  hex-there room n e = missing (λ (w : List ℕ). hexAnswer w room) (λ h. let q = no-hex-read room in let z : _≡_ {A = ℕ} 0 1 = cc in omega arith) e
 
 -- ---- the line's end
 

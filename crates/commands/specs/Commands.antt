@@ -111,12 +111,29 @@ spotsAsked command a b c d e =
 abbrev pub askedOf : (command depth : ℕ) → Spot → List (List ℕ) → Spot → Asked
 askedOf c d s ws end = spotsAsked c (part₁ c d s ws) (part₂ c d s ws) (part₃ c d s ws) (part₄ c d s ws) end
 
+-- where reading ends, with room for so many bytes of HEX and so many values
+abbrev pub rowEnd : (command depth hexRoom valueRoom : ℕ) → Spot → List (List ℕ) → Spot
+rowEnd c d h v s ws = endAfter (sortOf c 4) h v (part₄ c d s ws) ws
+
+-- what a line asks by the row of a command, and what it leaves in the buffers of HEX, of tags and of bits
+abbrev pub rowAsked : (command depth hexRoom valueRoom : ℕ) → Spot → List (List ℕ) → Asked
+rowAsked c d h v s ws = askedOf c d s ws (rowEnd c d h v s ws)
+
+abbrev pub rowBytes : (command depth : ℕ) → Spot → List (List ℕ) → List ℕ → List ℕ
+rowBytes c d s ws before = bytesAfter (sortOf c 4) (part₄ c d s ws) ws before
+
+abbrev pub rowTags : (command depth valueRoom : ℕ) → Spot → List (List ℕ) → List ℕ → List ℕ
+rowTags c d v s ws before = tagsAfter (sortOf c 4) v (part₄ c d s ws) ws before
+
+abbrev pub rowBits : (command depth valueRoom : ℕ) → Spot → List (List ℕ) → List ℕ → List ℕ
+rowBits c d v s ws before = bitsAfter (sortOf c 4) v (part₄ c d s ws) ws before
+
 -- the answer, and what the three buffers hold afterwards
 pub record Reads (command depth : ℕ) (start : Spot) (ws : List (List ℕ)) (r : Asked) (bytes bytes′ tags tags′ values values′ : List ℕ) : Type 0 where
-  pub answer : r ≡ askedOf command depth start ws (endAfter (sortOf command 4) (length bytes) (min (length tags) (length values)) (part₄ command depth start ws) ws)
-  pub hexed : bytes′ ≡ bytesAfter (sortOf command 4) (part₄ command depth start ws) ws bytes
-  pub kinds : tags′ ≡ tagsAfter (sortOf command 4) (min (length tags) (length values)) (part₄ command depth start ws) ws tags
-  pub said : values′ ≡ bitsAfter (sortOf command 4) (min (length tags) (length values)) (part₄ command depth start ws) ws values
+  pub answer : r ≡ rowAsked command depth (length bytes) (min (length tags) (length values)) start ws
+  pub hexed : bytes′ ≡ rowBytes command depth start ws bytes
+  pub kinds : tags′ ≡ rowTags command depth (min (length tags) (length values)) start ws tags
+  pub said : values′ ≡ rowBits command depth (min (length tags) (length values)) start ws values
 
 -- a line of the console: its name, and then the parts of that command
 abbrev pub lineReads : (depth : ℕ) (ws : List (List ℕ)) (r : Asked) (bytes bytes′ tags tags′ values values′ : List ℕ) → Type 0

@@ -8,7 +8,7 @@ use words::word::is_word;
 use words::word::word;
 ghost use mathlib.Core.Path.{_≡_};
 ghost use mathlib.Core.List.{[]};
-ghost use Prim.Native.Nat.{_<_, _≤_};
+ghost use Prim.Native.Nat.{_<_};
 ghost use lib.ListN.{getD};
 ghost use Rattle.words.specs.Words.{words};
 ghost use Rattle.commands.specs.Commands.{placeOf, pokeRead, nameRead, sortOf, Reads, lineReads, startReads};
@@ -284,7 +284,6 @@ fn read_row(
     tags: &mut [u64],
     bits: &mut [u64],
 ) -> Asked
-    requires { ⌜ start .next < 90 ⌝ }
     ensures { λ r. ⌜ Reads command depth start (words (now (line .entry))) r (now (bytes .entry)) (now (bytes .exit)) (now (tags .entry)) (now (tags .exit)) (now (bits .entry)) (now (bits .exit)) ⌝ }
 {
     let a = read_part(line, start, sort_of(command, 0), depth);

@@ -12,7 +12,7 @@ use words::word::kind_at;
 use words::word::number_at;
 ghost use mathlib.Core.Path.{_≡_};
 ghost use mathlib.Core.List.{[]};
-ghost use Prim.Native.Nat.{_+_, _<_, _≤_, min};
+ghost use Prim.Native.Nat.{min};
 ghost use lib.ListN.{length, getD, drop};
 ghost use lib.Seq.{sets};
 ghost use Rattle.words.specs.Hex.{hexAnswer, hexBuffer};
@@ -109,9 +109,7 @@ fn bad(k: usize) -> Spot
 
 // One part more, or none where its sort is NOTHING.
 pub fn read_part(line: &[u8], s: Spot, sort: u8, depth: usize) -> Spot
-    requires { ⌜ s .next < 100 ⌝ }
     ensures { λ r. ⌜ r ≡ partAfter sort depth s (words (now (line .entry))) ⌝ }
-    ensures { λ r. ⌜ r .next ≤ s .next + 1 ⌝ }
 {
     let k = s.next;
     if s.bad != 0 {
@@ -137,7 +135,6 @@ fn ended(line: &[u8], k: usize, value: u64) -> Spot
 }
 
 fn end_by_hex(line: &[u8], k: usize, bytes: &mut [u8]) -> Spot
-    requires { ⌜ k < 100 ⌝ }
     ensures { λ r. ⌜ (r ≡ hexEnd (hexAnswer (getD (words (now (line .entry))) k []) (length (now (bytes .entry)))) (words (now (line .entry))) k) × (now (bytes .exit) ≡ hexBuffer (getD (words (now (line .entry))) k []) (now (bytes .entry))) ⌝ }
 {
     match hex_at(line, k, bytes) {
@@ -165,7 +162,6 @@ pub fn read_end(
     tags: &mut [u64],
     bits: &mut [u64],
 ) -> Spot
-    requires { ⌜ s .next < 100 ⌝ }
     ensures { λ r. ⌜ (r ≡ endAfter sort (length (now (bytes .entry))) (min (length (now (tags .entry))) (length (now (bits .entry)))) s (words (now (line .entry)))) × (now (bytes .exit) ≡ bytesAfter sort s (words (now (line .entry))) (now (bytes .entry))) × (now (tags .exit) ≡ tagsAfter sort (min (length (now (tags .entry))) (length (now (bits .entry)))) s (words (now (line .entry))) (now (tags .entry))) × (now (bits .exit) ≡ bitsAfter sort (min (length (now (tags .entry))) (length (now (bits .entry)))) s (words (now (line .entry))) (now (bits .entry))) ⌝ }
 {
     let k = s.next;

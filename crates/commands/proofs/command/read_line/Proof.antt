@@ -1,5 +1,5 @@
 -- `command::read_line` meets its contract: the row is that of the name.
-use Rattle.commands.proofs.Naming.{named-near, line-reads}
+use Rattle.commands.proofs.Naming.{line-reads}
 use borrow.Author.Needs.{needs}
 use Rattle.commands.proofs.command.read_line.Statement.{statement}
 use Rattle.commands.proofs.command.read_line.Tie as tie
@@ -8,7 +8,7 @@ named-requires : tie.Need-named-requires
 named-requires c κs = search needs
 
 read-row-requires : tie.Need-read-row-requires
-read-row-requires c κs = named-near _ _ (c .before .before .before .named .ensures)
+read-row-requires c κs = search needs
 
 same-length : tie.Need-same-length
 same-length c = search needs

@@ -1,6 +1,6 @@
 -- `part::end_by_hex` meets its contract, by what the HEX answers.
 use mathlib.Core.Path.{_∙_, sym}
-use Rattle.commands.proofs.Reading.{hex-read, hex-long, hex-bad}
+use Rattle.commands.proofs.Reading.{hex-read, hex-long, hex-bad, hex-there}
 use borrow.Author.Needs.{needs}
 use Rattle.commands.proofs.part.end_by_hex.Statement.{statement}
 use Rattle.commands.proofs.part.end_by_hex.Tie as tie
@@ -12,7 +12,7 @@ enum-known-n : tie.Need-enum-known-n
 enum-known-n c = search needs
 
 add-ended : tie.Need-add-ended
-add-ended c = search needs
+add-ended c = record { fits = hex-there _ _ (c .before .before .before .before .before .before .before .before .before .good .0 .1) _ _ (sym (c .before .before .before .before .before .hex-at .ensures .0) ∙ c .before .n .given .1) }
 
 ended-requires : tie.Need-ended-requires
 ended-requires c κs = search needs

@@ -1,6 +1,6 @@
 -- `part::read_part` meets its contract: after a bad word nothing, else one part.
 use mathlib.Core.Path.{_∙_, sym}
-use Rattle.commands.proofs.Reading.{stuck, no-part, a-part, bad-part}
+use Rattle.commands.proofs.Reading.{stuck, no-part, a-part, bad-part, part-there}
 use borrow.Author.Needs.{needs}
 use Rattle.commands.proofs.part.read_part.Statement.{statement}
 use Rattle.commands.proofs.part.read_part.Tie as tie
@@ -21,7 +21,7 @@ enum-known-n : tie.Need-enum-known-n
 enum-known-n c = search needs
 
 add-good : tie.Need-add-good
-add-good c = search needs
+add-good c = record { fits = part-there _ _ (c .before .before .before .before .before .before .before .before .good .0 .1) _ _ _ _ (sym (c .before .before .before .part-at .ensures) ∙ c .before .n .given .1) }
 
 good-requires-2 : tie.Need-good-requires-2
 good-requires-2 c κs = search needs
