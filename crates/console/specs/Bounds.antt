@@ -1,0 +1,9 @@
+-- Parts of lists.
+use Prim.Native.Nat.{ℕ, _≤_}
+use mathlib.Core.Path.{_≡_}
+use mathlib.Core.List.{List}
+use lib.ListN.{length, take}
+
+-- so many elements stand at the start of a list
+abbrev pub Counts : ℕ → List ℕ → Type 0
+Counts n l = (n ≤ length l) × (n ≡ length (take n l))

@@ -1,0 +1,5 @@
+pub mod Bounds
+pub mod Told
+pub mod Listed
+pub mod Turns
+pub mod Runs

@@ -1,0 +1,275 @@
+-- What each command of the console does: the machine, the image and the bytes afterwards, and the line that it is answered by.
+use Prim.Native.Nat.{ℕ, _+_, _-_, _%_, _^_, min}
+use mathlib.Core.Bool.{Bool, _&&_, _||_}
+use mathlib.Core.List.{List, _++_}
+use lib.ListN.{length, getD, take, drop, replicate}
+use lib.Seq.{sets}
+use lib.Dec.{ltb, leb, eqb}
+use Rattle.value.specs.Answer.{pick}
+use Rattle.words.specs.Text.{Text, text}
+use Rattle.words.specs.Words.{words}
+use Rattle.words.specs.declared.Written.{Written}
+use Rattle.answers.specs.Lines.{Pieces, cannotReadLine, imageLine, okLine}
+use Rattle.commands.specs.Commands.{nameRead, rowAsked, rowBytes, rowTags, rowBits}
+use Rattle.commands.specs.declared.Asked.{Asked}
+use Rattle.by_hand.specs.Changes.{Poked, pokedOf}
+use Rattle.by_hand.specs.State.{dumpLine}
+use Rattle.image.specs.Image.{loaded}
+use Rattle.image_writer.specs.Answer.{outcome, buffer}
+use Rattle.memory.specs.declared.Registers.{Registers}
+use Rattle.memory.specs.declared.Outcome.{Outcome}
+use Rattle.memory.specs.Tables.{State, state, tables, Both, All, Out, freshOf}
+use Rattle.instruction.specs.declared.variables.Found.{Found}
+use Rattle.instruction.specs.Variables.{found}
+use Rattle.eval.specs.Run.{Running}
+use Rattle.eval.specs.Entry.{Entering, Reading, runEntered, stepEntered, readEntered}
+use Rattle.eval.specs.Start.{startEntered}
+use Rattle.eval.specs.Host.{hostAllocated, hostWritten}
+use Rattle.replies.specs.Words.{afterMoved, afterEntered, afterRun, afterGiven}
+use Rattle.console.specs.Told.{line, ranLine, startLine, stepLine, freshLine, givenLine, outcomeLine, readLine, rewrittenLine}
+use Rattle.console.specs.Listed.{liveLineOf}
+use Rattle.console.specs.declared.Turn.{Turn}
+
+-- ---- what a command leaves
+
+-- the machine afterwards, and the line
+pub record Done : Type 0 where
+  pub machine : State
+  pub line : Pieces
+
+abbrev pub done : Registers → (store frames bounds pointers variables : List ℕ) → Pieces → Done
+done m s f b p v ps = record { machine = state (tables m s f b p) v; line = ps }
+
+-- the machine as it was
+abbrev pub still : State → Pieces → Done
+still t ps = record { machine = t; line = ps }
+
+abbrev pub registersOf : State → Registers
+registersOf t = t .memory .registers
+
+-- ---- the commands that run the image
+
+abbrev pub fromEntering : State → (tell : Pieces) → Entering → Done
+fromEntering t ps r = done (afterEntered (r .answer) (registersOf t)) (r .store) (r .frames) (r .bounds) (r .pointers) (r .variables) ps
+
+-- how many values end a line, of those that the tables hold
+abbrev pub valueCount : (count : ℕ) → (tags bits : List ℕ) → ℕ
+valueCount n ts bs = min n (min (length ts) (length bs))
+
+-- "the context, then up to 64 arguments"
+abbrev pub contextOf : (tags bits : List ℕ) → Found
+contextOf ts bs = found (getD ts 0 0) (getD bs 0 0)
+
+abbrev pub argumentsOf : (count : ℕ) → List ℕ → List ℕ
+argumentsOf n l = take (n - 1) (drop 1 l)
+
+-- "`start FUNCTION KIND BITS [KIND BITS]...` → `ok`"
+unfoldable pub begunOf : (image : List ℕ) → (function count : ℕ) → (tags bits : List ℕ) → State → Entering
+begunOf s f n ts bs t =
+    startEntered s f (contextOf ts bs) (argumentsOf (valueCount n ts bs) ts) (argumentsOf (valueCount n ts bs) bs) t
+
+unfoldable pub startDone : (image : List ℕ) → Asked → (tags bits : List ℕ) → State → Done
+startDone s a ts bs t = let r = begunOf s (a .first) (a .count) ts bs t in fromEntering t (startLine (r .answer)) r
+
+-- "`step` → `stepped`, `returned KIND BITS` or `returned none`"
+unfoldable pub stepDone : (image : List ℕ) → State → Done
+stepDone s t = let r = stepEntered s t in fromEntering t (stepLine (r .answer)) r
+
+-- "`run BUDGET` → as `lir run`"
+abbrev pub fromRunning : State → Running → Done
+fromRunning t r = done (afterRun (r .answer) (registersOf t)) (r .store) (r .frames) (r .bounds) (r .pointers) (r .variables) (ranLine (r .answer))
+
+abbrev pub budgetOf : ℕ → ℕ
+budgetOf n = n % 2 ^ 32
+
+unfoldable pub runDone : (image : List ℕ) → Asked → State → Done
+runDone s a t = fromRunning t (runEntered s (budgetOf (a .first)) t)
+
+unfoldable pub ranOf : (image : List ℕ) → Asked → (tags bits : List ℕ) → State → Done
+ranOf s a ts bs t = pick (eqb (a .command) 5) (startDone s a ts bs t) (pick (eqb (a .command) 6) (stepDone s t) (runDone s a t))
+
+-- ---- the commands that change the memory by the host's hand
+
+-- "`fresh` → `ok`: fresh memory; the image stays."
+abbrev pub fromAll : State → All → Done
+fromAll t r = done (afterMoved (r .answer) (registersOf t)) (r .store) (r .frames) (r .bounds) (r .pointers) (r .variables) (freshLine (r .answer))
+
+unfoldable pub freshDone : State → Done
+freshDone t = fromAll t (freshOf (t .memory .store) (t .memory .frames) (t .memory .bounds) (t .memory .pointers) (t .variables))
+
+-- "`allocate SIZE` → `pointer N`"
+abbrev pub fromOut : State → Out → Done
+fromOut t r = done (afterGiven (r .answer) (registersOf t)) (r .store) (r .frames) (r .bounds) (r .pointers) (t .variables) (givenLine (r .answer))
+
+unfoldable pub allocateDone : Asked → State → Done
+allocateDone a t = fromOut t (hostAllocated t (a .first))
+
+-- "`write P HEX` → `ok`"
+abbrev pub fromBoth : State → Both Outcome → Done
+fromBoth t r = done (registersOf t) (r .table) (t .memory .frames) (t .memory .bounds) (t .memory .pointers) (t .variables) (outcomeLine (r .answer))
+
+unfoldable pub writeDone : Asked → (bytes : List ℕ) → State → Done
+writeDone a bs t = fromBoth t (hostWritten t (a .first) (take (a .count) bs))
+
+-- "`poke WHAT ..` → `ok`"
+abbrev pub fromPoked : State → Poked → Done
+fromPoked t r = done (r .registers) (t .memory .store) (r .frames) (t .memory .bounds) (r .pointers) (r .variables) okLine
+
+unfoldable pub pokeDone : Asked → State → Done
+pokeDone a t = fromPoked t (pokedOf (registersOf t) a (t .memory .frames) (t .memory .pointers) (t .variables))
+
+unfoldable pub changedOf : Asked → (bytes : List ℕ) → State → Done
+changedOf a bs t =
+    pick (eqb (a .command) 1) (freshDone t) (pick (eqb (a .command) 2) (allocateDone a t) (pick (eqb (a .command) 3) (writeDone a bs t) (pokeDone a t)))
+
+-- ---- the commands that look at the state and leave it as it is
+
+-- the line, and the bytes that it was made in
+pub record Seen : Type 0 where
+  pub line : Pieces
+  pub bytes : List ℕ
+
+abbrev pub seen : Pieces → List ℕ → Seen
+seen ps bs = record { line = ps; bytes = bs }
+
+-- "`read P SIZE` (at most 32,768) → `bytes HEX`"
+abbrev pub fromReading : (rest : List ℕ) → Reading → Seen
+fromReading rest r = seen (readLine (r .answer) (r .bytes)) (r .bytes ++ rest)
+
+unfoldable pub readSeen : Asked → (image bytes : List ℕ) → State → Seen
+readSeen a s bs t = fromReading (drop (a .second) bs) (readEntered s (a .first) (take (a .second) bs) t)
+
+-- "`rewrite ROOM` (at most 32,768) → the image written again by the image writer: `bytes HEX`"
+unfoldable pub rewriteSeen : Asked → (image bytes : List ℕ) → Seen
+rewriteSeen a s bs =
+    let room = take (a .first) bs in
+    let after = buffer (loaded s) room ++ drop (a .first) bs in
+    seen (rewrittenLine (outcome (loaded s) room) after) after
+
+-- `live ROOM`, and `dump`
+unfoldable pub lookedOf : Asked → (image bytes : List ℕ) → State → Seen
+lookedOf a s bs t =
+    pick (eqb (a .command) 4) (readSeen a s bs t)
+    (pick (eqb (a .command) 8) (seen (liveLineOf (a .first) t) bs)
+    (pick (eqb (a .command) 9) (rewriteSeen a s bs)
+    (seen (dumpLine (registersOf t) (t .memory .store) (t .memory .frames) (t .memory .bounds) (t .memory .pointers) (t .variables)) bs)))
+
+-- where its text ends, with the buffer of the text and the bytes
+pub record Shown : Type 0 where
+  pub text : Text
+  pub bytes : List ℕ
+
+abbrev pub shown : Text → List ℕ → Shown
+shown t bs = record { text = t; bytes = bs }
+
+abbrev pub showing : (out : List ℕ) → Seen → Shown
+showing o s = shown (line (s .line) o) (s .bytes)
+
+-- ---- one command
+
+-- the machine and the line, the image's length and bytes, and the bytes that HEX was read into
+pub record Performed : Type 0 where
+  pub done : Done
+  pub length : ℕ
+  pub image : List ℕ
+  pub bytes : List ℕ
+
+abbrev pub performed : Done → ℕ → (image bytes : List ℕ) → Performed
+performed d n image bs = record { done = d; length = n; image = image; bytes = bs }
+
+-- "`image HEX` → `image N bytes`: the image for what follows; nothing is loaded yet." So many bytes as have room
+abbrev pub imageCount : (count : ℕ) → (image bytes : List ℕ) → ℕ
+imageCount n image bs = min n (min (length image) (length bs))
+
+abbrev pub imageTaken : ℕ → (image bytes : List ℕ) → State → Performed
+imageTaken n image bs t = performed (still t (imageLine n)) n (sets image 0 (take n bs)) bs
+
+abbrev pub looking : Seen → ℕ → (image : List ℕ) → State → Performed
+looking l n image t = performed (still t (l .line)) n image (l .bytes)
+
+abbrev pub runs : ℕ → Bool
+runs c = leb 5 c && leb c 7
+
+abbrev pub looks : ℕ → Bool
+looks c = eqb c 4 || (leb 8 c && leb c 10)
+
+-- the image is the first `n` bytes of its buffer
+unfoldable pub performedOf : (n : ℕ) → Asked → (tags bits image bytes : List ℕ) → State → Performed
+performedOf n a ts bs image bytes t =
+    pick (eqb (a .command) 0) (imageTaken (imageCount (a .count) image bytes) image bytes t)
+    (pick (runs (a .command)) (performed (ranOf (take n image) a ts bs t) n image bytes)
+    (pick (looks (a .command)) (looking (lookedOf a (take n image) bytes t) n image t)
+    (performed (changedOf a bytes t) n image bytes)))
+
+-- ---- one line
+
+-- "What cannot be read .. is answered by one line .., `cannot read: word N` (counted from 1), nothing is done"; the word is counted as 64 bits hold it
+abbrev pub unreadLine : (word : ℕ) → Pieces
+unreadLine w = cannotReadLine ((w + 1) % 2 ^ 64)
+
+abbrev pub zeros : List ℕ
+zeros = replicate 65 0
+
+-- "A line may be 262,144 bytes long; a longer one is one bad line."
+abbrev pub longest : ℕ
+longest = 262144
+
+-- what the line asks, with room for the context and 64 arguments
+abbrev pub lineAsked : (depth hexRoom : ℕ) → (line : List ℕ) → Asked
+lineAsked d h l = rowAsked (nameRead (words l) .value) d h 65 (nameRead (words l)) (words l)
+
+abbrev pub lineBytes : (depth : ℕ) → (line before : List ℕ) → List ℕ
+lineBytes d l before = rowBytes (nameRead (words l) .value) d (nameRead (words l)) (words l) before
+
+abbrev pub lineTags : (depth : ℕ) → (line : List ℕ) → List ℕ
+lineTags d l = rowTags (nameRead (words l) .value) d 65 (nameRead (words l)) (words l) zeros
+
+abbrev pub lineBits : (depth : ℕ) → (line : List ℕ) → List ℕ
+lineBits d l = rowBits (nameRead (words l) .value) d 65 (nameRead (words l)) (words l) zeros
+
+-- a line that was read is done, on the machine and on what it left in the bytes
+unfoldable pub readOf : (n : ℕ) → Asked → (tags bits image bytes : List ℕ) → State → Performed
+readOf n a ts bs image bytes t =
+    pick (eqb (a .bad) 0) (performedOf n a ts bs image bytes t) (performed (still t (unreadLine (a .word))) n image bytes)
+
+unfoldable pub answeredOf : (n : ℕ) → (line image bytes : List ℕ) → State → Performed
+answeredOf n l image bytes t =
+    pick (ltb longest (length l)) (performed (still t (unreadLine 0)) n image bytes)
+    (readOf n (lineAsked (registersOf t .depth) (length bytes) l) (lineTags (registersOf t .depth) l) (lineBits (registersOf t .depth) l) image
+    (lineBytes (registersOf t .depth) l bytes) t)
+
+-- ---- in the buffers
+
+-- the registers, the image's length and where the text ends; the buffer of the text; the tables
+pub record Left : Type 0 where
+  pub turn : Turn
+  pub out : List ℕ
+  pub store : List ℕ
+  pub frames : List ℕ
+  pub bounds : List ℕ
+  pub pointers : List ℕ
+  pub variables : List ℕ
+
+abbrev pub left : Turn → (out store frames bounds pointers variables : List ℕ) → Left
+left r o s f b p v = record { turn = r; out = o; store = s; frames = f; bounds = b; pointers = p; variables = v }
+
+abbrev pub turn : Registers → ℕ → Written → Turn
+turn m n w = record { m = m; image = n; text = w }
+
+-- the line is written from the start of the buffer on
+abbrev pub told : (n : ℕ) → (out : List ℕ) → Done → Left
+told n o d =
+    left (turn (registersOf (d .machine)) n (line (d .line) o .place)) (line (d .line) o .bytes)
+    (d .machine .memory .store) (d .machine .memory .frames) (d .machine .memory .bounds) (d .machine .memory .pointers) (d .machine .variables)
+
+-- and with the image and the bytes
+pub record Kept : Type 0 where
+  pub left : Left
+  pub image : List ℕ
+  pub bytes : List ℕ
+
+abbrev pub kept : Left → (image bytes : List ℕ) → Kept
+kept l image bs = record { left = l; image = image; bytes = bs }
+
+abbrev pub keeping : (out : List ℕ) → Performed → Kept
+keeping o p = kept (told (p .length) o (p .done)) (p .image) (p .bytes)
