@@ -1,2 +1,4 @@
 pub mod Telling
 pub mod Listing
+pub mod Turning
+pub mod Starting

@@ -179,7 +179,7 @@ performed d n image bs = record { done = d; length = n; image = image; bytes = b
 
 -- "`image HEX` → `image N bytes`: the image for what follows; nothing is loaded yet." So many bytes as have room
 abbrev pub imageCount : (count : ℕ) → (image bytes : List ℕ) → ℕ
-imageCount n image bs = min n (min (length image) (length bs))
+imageCount n image bs = min (min n (length image)) (length bs)
 
 abbrev pub imageTaken : ℕ → (image bytes : List ℕ) → State → Performed
 imageTaken n image bs t = performed (still t (imageLine n)) n (sets image 0 (take n bs)) bs
@@ -187,10 +187,10 @@ imageTaken n image bs t = performed (still t (imageLine n)) n (sets image 0 (tak
 abbrev pub looking : Seen → ℕ → (image : List ℕ) → State → Performed
 looking l n image t = performed (still t (l .line)) n image (l .bytes)
 
-abbrev pub runs : ℕ → Bool
+unfoldable pub runs : ℕ → Bool
 runs c = leb 5 c && leb c 7
 
-abbrev pub looks : ℕ → Bool
+unfoldable pub looks : ℕ → Bool
 looks c = eqb c 4 || (leb 8 c && leb c 10)
 
 -- the image is the first `n` bytes of its buffer

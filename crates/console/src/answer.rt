@@ -21,10 +21,9 @@ use image_writer::writer::Outcome as Rewritten;
 use instruction::variables::Found;
 use loader::load::Loaded;
 use memory::Given;
-use memory::Outcome;
 use memory::Moved;
+use memory::Outcome;
 use words::Written;
-
 ghost use mathlib.Core.Path.{_≡_};
 ghost use Rattle.words.specs.Text.{text};
 ghost use Rattle.console.specs.Told.{line, endLine, ranLine, lastLine, startLine, stepLine, freshLine, givenLine, outcomeLine, readLine, loadedLine, rewrittenLine};

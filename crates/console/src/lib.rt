@@ -4,6 +4,7 @@ mod begin;
 mod bound;
 pub mod live;
 pub mod run;
+pub mod session;
 
 use memory::Registers;
 use words::Written;

@@ -102,7 +102,16 @@ fn run_fresh(
 {
     match fresh(store, frames, bounds, pointers, vars) {
         Moved::Done(m) => run_on(
-            m, asked, tags, bits, image, store, frames, bounds, pointers, vars,
+            m,
+            asked,
+            tags,
+            bits,
+            image,
+            store,
+            frames,
+            bounds,
+            pointers,
+            vars,
         ),
         Moved::Refused(number) => Ran::Refused(number),
     }
@@ -140,7 +149,15 @@ pub fn answer_start(
         return write_unread(out, asked.word);
     }
     let r = run_fresh(
-        asked, &tags, &bits, image, store, frames, bounds, pointers, vars,
+        asked,
+        &tags,
+        &bits,
+        image,
+        store,
+        frames,
+        bounds,
+        pointers,
+        vars,
     );
     write_ran(out, r)
 }

@@ -1,11 +1,8 @@
+-- `begin::begin` meets its contract: the first value is the context, and the others are the arguments.
+use Rattle.console.proofs.Turning.{begins}
 use borrow.Author.Needs.{needs}
 use Rattle.console.proofs.begin.begin.Statement.{statement}
 use Rattle.console.proofs.begin.begin.Tie as tie
-use Rattle.console.proofs.begin.begin.Reads as reads
-use Rattle.console.proofs.begin.begin.Lts as lts
-use Rattle.by_hand.proofs.table.word_at.Reads as word-at-reads
-use Rattle.console.proofs.bound.least.Reads as least-reads
-use Rattle.eval.proofs.start.start.Reads as start-reads
 
 word-at-requires : tie.Need-word-at-requires
 word-at-requires c κs = search needs
@@ -65,7 +62,7 @@ same-length-5 : tie.Need-same-length-5
 same-length-5 c = search needs
 
 returns : tie.Need-returns
-returns c = ?
+returns c = begins _ _ _ _ _ _ (c .before .before .before .before .before .before .before .before .before .before .before .before .before .before .before .before .before .before .before .before .before .before .word-at .ensures) (c .before .before .before .before .before .before .before .before .before .before .before .before .before .before .before .before .before .before .before .before .before .word-at2 .ensures) (c .before .before .before .before .before .before .before .before .before .before .before .before .before .before .before .before .before .before .before .before .least .ensures) (c .before .before .before .before .before .before .before .before .before .before .before .before .before .before .before .before .before .before .before .least2 .ensures) (c .before .before .before .before .before .before .before .before .before .before .before .before .before .before .before .before .before .before .least3 .ensures) (c .before .before .before .before .before .before .before .before .before .before .start .ensures)
 
 pub begin-spec : {M : Type 1} → statement M
 begin-spec =

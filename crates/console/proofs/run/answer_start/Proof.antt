@@ -1,12 +1,9 @@
+-- `run::answer_start` meets its contract: too long, not read, or run.
+use mathlib.Core.Path.{refl, sym, _∙_}
+use Rattle.console.proofs.Starting.{start-long, start-unread, start-runs}
 use borrow.Author.Needs.{needs}
 use Rattle.console.proofs.run.answer_start.Statement.{statement}
 use Rattle.console.proofs.run.answer_start.Tie as tie
-use Rattle.console.proofs.run.answer_start.Reads as reads
-use Rattle.console.proofs.run.answer_start.Lts as lts
-use Rattle.commands.proofs.command.read_start_line.Reads as read-start-line-reads
-use Rattle.console.proofs.answer.write_ran.Reads as write-ran-reads
-use Rattle.console.proofs.run.run_fresh.Reads as run-fresh-reads
-use Rattle.console.proofs.run.write_unread.Reads as write-unread-reads
 
 write-unread-requires : tie.Need-write-unread-requires
 write-unread-requires c κs = search needs
@@ -15,7 +12,7 @@ same-length : tie.Need-same-length
 same-length c = search needs
 
 returns : tie.Need-returns
-returns c = ?
+returns c = start-long _ _ _ _ _ _ _ _ (c .before .before .before .before .if1 .taken) (c .before .before .write-unread .ensures)
 
 slice-aggregate-read-start-line : tie.Need-slice-aggregate-read-start-line
 slice-aggregate-read-start-line c = search needs
@@ -36,7 +33,7 @@ same-length-2 : tie.Need-same-length-2
 same-length-2 c = search needs
 
 returns-2 : tie.Need-returns-2
-returns-2 c = ?
+returns-2 c = start-unread _ _ _ _ _ _ _ _ (c .before .before .before .before .before .before .before .before .before .before .before .before .before .if1 .left) refl (c .before .before .before .before .before .before .before .before .before .read-start-line .ensures) (c .before .before .before .before .if2 .taken) (c .before .before .write-unread2 .ensures)
 
 slice-aggregate-run-fresh : tie.Need-slice-aggregate-run-fresh
 slice-aggregate-run-fresh c = search needs
@@ -69,7 +66,7 @@ same-length-8 : tie.Need-same-length-8
 same-length-8 c = search needs
 
 returns-3 : tie.Need-returns-3
-returns-3 c = ?
+returns-3 c = start-runs _ _ _ _ _ _ _ _ (c .before .before .before .before .before .before .before .before .before .before .before .before .before .before .before .before .before .before .before .before .before .before .before .before .before .before .before .before .before .before .before .if1 .left) refl (c .before .before .before .before .before .before .before .before .before .before .before .before .before .before .before .before .before .before .before .before .before .before .before .before .before .before .before .read-start-line .ensures) (c .before .before .before .before .before .before .before .before .before .before .before .before .before .before .before .before .before .before .before .before .before .before .if2 .left) (c .before .before .before .before .before .before .before .before .before .before .before .before .before .before .run-fresh .ensures) (c .before .before .write-ran .ensures)
 
 pub answer-start-spec : {M : Type 1} → statement M
 answer-start-spec =

@@ -1,10 +1,8 @@
+-- `run::run_fresh` meets its contract: on the memory that was made.
+use Rattle.console.proofs.Starting.{made-runs, unmade-stays}
 use borrow.Author.Needs.{needs}
 use Rattle.console.proofs.run.run_fresh.Statement.{statement}
 use Rattle.console.proofs.run.run_fresh.Tie as tie
-use Rattle.console.proofs.run.run_fresh.Reads as reads
-use Rattle.console.proofs.run.run_fresh.Lts as lts
-use Rattle.console.proofs.run.run_on.Reads as run-on-reads
-use Rattle.memory.proofs.fresh.Reads as fresh-reads
 
 fresh-requires : tie.Need-fresh-requires
 fresh-requires c κs = search needs
@@ -34,7 +32,7 @@ same-length-5 : tie.Need-same-length-5
 same-length-5 c = search needs
 
 returns : tie.Need-returns
-returns c = ?
+returns c = made-runs _ _ _ _ _ _ _ _ _ (c .before .before .before .before .before .before .before .before .before .before .before .before .before .before .before .before .before .before .before .before .before .before .before .before .before .before .before .before .before .fresh .ensures) _ (c .before .before .before .before .before .before .before .before .before .before .before .before .before .before .before .before .before .m .given .1) (c .before .before .before .before .before .before .before .before .before .before .run-on .ensures)
 
 same-length-6 : tie.Need-same-length-6
 same-length-6 c = search needs
@@ -52,7 +50,7 @@ same-length-10 : tie.Need-same-length-10
 same-length-10 c = search needs
 
 returns-2 : tie.Need-returns-2
-returns-2 c = ?
+returns-2 c = unmade-stays _ _ _ _ _ _ _ _ _ (c .before .before .before .before .before .before .before .before .before .before .before .before .before .fresh .ensures) _ (c .before .number .given .1)
 
 pub run-fresh-spec : {M : Type 1} → statement M
 run-fresh-spec =

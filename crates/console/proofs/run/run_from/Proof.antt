@@ -1,9 +1,9 @@
+-- `run::run_from` meets its contract: case by case.
+use mathlib.Core.Path.{refl, sym, _∙_}
+use Rattle.console.proofs.Starting.{from-case}
 use borrow.Author.Needs.{needs}
 use Rattle.console.proofs.run.run_from.Statement.{statement}
 use Rattle.console.proofs.run.run_from.Tie as tie
-use Rattle.console.proofs.run.run_from.Reads as reads
-use Rattle.console.proofs.run.run_from.Lts as lts
-use Rattle.eval.proofs.entry.run.Reads as run-reads
 
 enum-known-e : tie.Need-enum-known-e
 enum-known-e c = search needs
@@ -36,16 +36,16 @@ same-length-5 : tie.Need-same-length-5
 same-length-5 c = search needs
 
 returns : tie.Need-returns
-returns c = ?
+returns c = from-case _ _ _ _ _ _ _ (c .before .before .before .before .before .before .before .before .before .before .before .before .before .before .before .before .before .e .given .1) (c .before .before .before .before .before .before .before .before .before .before .run .ensures)
 
 returns-2 : tie.Need-returns-2
-returns-2 c = ?
+returns-2 c = from-case _ _ _ _ _ _ _ (c .before .e2 .given .1) refl
 
 returns-3 : tie.Need-returns-3
-returns-3 c = ?
+returns-3 c = from-case _ _ _ _ _ _ _ (c .before .e3 .given .1) refl
 
 returns-4 : tie.Need-returns-4
-returns-4 c = ?
+returns-4 c = from-case _ _ _ _ _ _ _ (c .before .e4 .given .1) refl
 
 pub run-from-spec : {M : Type 1} → statement M
 run-from-spec =

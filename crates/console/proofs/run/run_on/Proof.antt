@@ -1,11 +1,8 @@
+-- `run::run_on` meets its contract: the start, and the run that follows.
+use Rattle.console.proofs.Starting.{begun-runs}
 use borrow.Author.Needs.{needs}
 use Rattle.console.proofs.run.run_on.Statement.{statement}
 use Rattle.console.proofs.run.run_on.Tie as tie
-use Rattle.console.proofs.run.run_on.Reads as reads
-use Rattle.console.proofs.run.run_on.Lts as lts
-use Rattle.console.proofs.begin.begin.Reads as begin-reads
-use Rattle.console.proofs.begin.budget_of.Reads as budget-of-reads
-use Rattle.console.proofs.run.run_from.Reads as run-from-reads
 
 begin-requires : tie.Need-begin-requires
 begin-requires c κs = search needs
@@ -32,7 +29,7 @@ same-length-5 : tie.Need-same-length-5
 same-length-5 c = search needs
 
 returns : tie.Need-returns
-returns c = ?
+returns c = begun-runs _ _ _ _ _ (c .before .before .before .before .before .before .before .before .before .before .before .before .before .before .before .before .budget-of .ensures) (c .before .before .before .before .before .before .before .before .before .before .before .before .before .before .before .before .before .before .before .before .before .before .before .before .before .before .before .begin .ensures) (c .before .before .before .before .before .before .before .before .before .before .run-from .ensures)
 
 pub run-on-spec : {M : Type 1} → statement M
 run-on-spec =
