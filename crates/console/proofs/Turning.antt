@@ -26,7 +26,7 @@ use Rattle.memory.specs.declared.Outcome.{Outcome}
 use Rattle.memory.specs.Tables.{State, state, tables, Both, both, All, all, Out, out, freshOf}
 use Rattle.instruction.specs.declared.variables.Found.{Found}
 use Rattle.instruction.specs.Variables.{found}
-use Rattle.eval.specs.Run.{Running, running}
+use Rattle.run.specs.Run.{Running, running}
 use Rattle.eval.specs.Entry.{Entering, entering, Reading, readOut, runEntered, stepEntered, readEntered}
 use Rattle.eval.specs.declared.entry.Readout.{Readout}
 use Rattle.image.specs.Image.{loaded}
@@ -34,7 +34,7 @@ use Rattle.image_writer.specs.Answer.{Rewrote, outcome, buffer}
 use Rattle.image_writer.specs.declared.writer.Outcome.{Outcome as Rewritten}
 use Rattle.eval.specs.Start.{startEntered}
 use Rattle.eval.specs.Host.{hostAllocated, hostWritten}
-use Rattle.eval.specs.declared.run.Ran.{Ran}
+use Rattle.run.specs.declared.Ran.{Ran}
 use Rattle.eval.specs.declared.entry.Entered.{Entered}
 use Rattle.replies.specs.Words.{afterMoved, afterEntered, afterRun, afterGiven}
 use Rattle.console.specs.declared.Turn.{Turn}

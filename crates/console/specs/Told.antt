@@ -17,8 +17,8 @@ use Rattle.memory.specs.declared.Given.the-variants as given
 use Rattle.memory.specs.declared.Outcome.{Outcome}
 use Rattle.memory.specs.declared.Outcome.the-variants as outcome
 use Rattle.instruction.specs.declared.variables.Found.{Found}
-use Rattle.eval.specs.declared.run.Ran.{Ran}
-use Rattle.eval.specs.declared.run.Ran.the-variants as ran
+use Rattle.run.specs.declared.Ran.{Ran}
+use Rattle.run.specs.declared.Ran.the-variants as ran
 use Rattle.eval.specs.declared.entry.Entered.{Entered}
 use Rattle.eval.specs.declared.entry.Entered.the-variants as entered
 use Rattle.eval.specs.declared.entry.Readout.{Readout}

@@ -21,7 +21,7 @@ use Rattle.memory.specs.declared.Outcome.{Outcome}
 use Rattle.memory.specs.Tables.{State, state, tables, Both, All, Out, freshOf}
 use Rattle.instruction.specs.declared.variables.Found.{Found}
 use Rattle.instruction.specs.Variables.{found}
-use Rattle.eval.specs.Run.{Running}
+use Rattle.run.specs.Run.{Running}
 use Rattle.eval.specs.Entry.{Entering, Reading, runEntered, stepEntered, readEntered}
 use Rattle.eval.specs.Start.{startEntered}
 use Rattle.eval.specs.Host.{hostAllocated, hostWritten}
