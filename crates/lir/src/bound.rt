@@ -15,10 +15,3 @@ pub fn within(n: usize, s: &[u8]) -> usize
 {
     least(n, s.len())
 }
-
-// So many of the slice's words, or all of them.
-pub fn words_within(n: usize, s: &[u64]) -> usize
-    ensures { λ r. ⌜ Counts r (now (s .entry)) ⌝ }
-{
-    least(n, s.len())
-}

@@ -1,55 +1,121 @@
 // `lir console`: the host's calls by hand, a command a line, one answer line each.
-use crate::bound::least;
 use crate::bound::within;
 use crate::file::Got;
 use crate::file::read_input;
 use crate::say;
-use crate::session::Session;
-use crate::session::answer;
-use answers::line::write_cannot_read;
+use console::Turn;
+use console::session::answer;
 use memory::Moved;
 use memory::Registers;
 use memory::fresh;
-use words::Written;
 ghost use Prim.Native.Nat.{_<_};
 
 // One read of the input is at most so many bytes.
 const ONE_READ: usize = 4096;
 
-// The machine and the image, with the line that is being read: how many of its bytes are kept, 1 in `over` where it is too
-// long, and 1 in `ended` where the input is at its end.
+// The line that is being read: how many of its bytes are kept; the input that was read is used up to `at`, and ends at `end`. `whole`
+// is 1 where the line is whole, and `ended` is 1 where the input is at its end.
 pub struct Held {
-    pub session: Session,
     pub length: usize,
-    pub over: u64,
+    pub at: usize,
+    pub end: usize,
+    pub whole: u64,
     pub ended: u64,
 }
 
-fn next_line(session: Session) -> Held {
-    Held {
-        session,
-        length: 0,
-        over: 0,
-        ended: 0,
-    }
+// The machine's registers, how long the image is, and the line that is being read.
+pub struct Talk {
+    pub m: Registers,
+    pub image: usize,
+    pub held: Held,
 }
 
-// One byte more of the line.
+// One byte more of the line. The buffer has room for one more than the longest line has, so that a longer one is seen to be.
 fn keep(h: Held, byte: u8, line: &mut [u8]) -> Held {
     let mut n = h;
     let at = h.length;
     if at < line.len() {
         line[at] = byte;
         n.length = at + 1;
-        return n;
     }
-    n.over = 1;
     n
 }
 
-// Answers the line. One that is too long cannot be read from its first word on.
+// What is left of the input, up to the line's end.
+fn take_bytes(start: Held, input: &[u8], line: &mut [u8]) -> Held {
+    let mut h = start;
+    let mut i = start.at;
+    while i < input.len() {
+        let byte = input[i];
+        i += 1;
+        if byte == b'\n' {
+            h.at = i;
+            h.whole = 1;
+            return h;
+        }
+        h = keep(h, byte, line);
+    }
+    h.at = i;
+    h
+}
+
+// The input that was read is so long, and nothing of it is used.
+fn refill(h: Held, end: usize) -> Held {
+    let mut n = h;
+    n.at = 0;
+    n.end = end;
+    n
+}
+
+// The input's end. A line may end with it.
+fn finish(h: Held) -> Held {
+    let mut n = h;
+    if h.length != 0 {
+        n.whole = 1;
+    }
+    n.ended = 1;
+    n
+}
+
+fn stop(h: Held) -> Held {
+    let mut n = h;
+    n.ended = 1;
+    n
+}
+
+fn read_more(h: Held, input: &mut [u8], line: &mut [u8]) -> Held {
+    match read_input(input) {
+        Got::Bytes(n) => {
+            let end = within(n, input);
+            take_bytes(refill(h, end), &input[..end], line)
+        }
+        Got::End => finish(h),
+        Got::Failed => stop(h),
+    }
+}
+
+// Some more of the line: from the input that was read, or from what is read next.
+fn advance(h: Held, input: &mut [u8], line: &mut [u8]) -> Held {
+    if h.at < h.end {
+        let end = within(h.end, input);
+        return take_bytes(h, &input[..end], line);
+    }
+    read_more(h, input, line)
+}
+
+// The next line begins.
+fn next_line(r: Turn, h: Held) -> Talk {
+    let m = r.m;
+    let image = r.image;
+    let mut held = h;
+    held.length = 0;
+    held.whole = 0;
+    Talk { m, image, held }
+}
+
+// Answers the line, where it is whole.
 fn respond(
-    h: Held,
+    t: Talk,
     line: &[u8],
     image: &mut [u8],
     bytes: &mut [u8],
@@ -59,16 +125,16 @@ fn respond(
     bounds: &mut [u64],
     pointers: &mut [u64],
     vars: &mut [u64],
-) -> Held {
-    let session = h.session;
-    if h.over == 1 {
-        let to = write_cannot_read(out, Written::To(0), 1);
-        say::answer(out, to);
-        return next_line(session);
+) -> Talk {
+    let h = t.held;
+    let m = t.m;
+    if h.whole == 0 {
+        return t;
     }
     let end = within(h.length, line);
-    let turn = answer(
-        session,
+    let r = answer(
+        m,
+        t.image,
         &line[..end],
         image,
         bytes,
@@ -79,114 +145,20 @@ fn respond(
         pointers,
         vars,
     );
-    let to = turn.text;
-    say::answer(out, to);
-    let after = turn.session;
-    next_line(after)
+    let text = r.text;
+    say::answer(out, text);
+    next_line(r, h)
 }
 
-// One byte of the input: it ends the line, or is kept.
-fn take_byte(
-    h: Held,
-    byte: u8,
-    line: &mut [u8],
-    image: &mut [u8],
-    bytes: &mut [u8],
-    out: &mut [u8],
-    store: &mut [u8],
-    frames: &mut [u64],
-    bounds: &mut [u64],
-    pointers: &mut [u64],
-    vars: &mut [u64],
-) -> Held {
-    if byte == b'\n' {
-        return respond(
-            h,
-            line,
-            image,
-            bytes,
-            out,
-            store,
-            frames,
-            bounds,
-            pointers,
-            vars,
-        );
-    }
-    keep(h, byte, line)
+fn with_held(t: Talk, held: Held) -> Talk {
+    let m = t.m;
+    let image = t.image;
+    Talk { m, image, held }
 }
 
-// The bytes of the input that were read.
-fn take_bytes(
-    start: Held,
-    input: &[u8],
-    line: &mut [u8],
-    image: &mut [u8],
-    bytes: &mut [u8],
-    out: &mut [u8],
-    store: &mut [u8],
-    frames: &mut [u64],
-    bounds: &mut [u64],
-    pointers: &mut [u64],
-    vars: &mut [u64],
-) -> Held {
-    let n = least(input.len(), ONE_READ);
-    let mut h = start;
-    let mut i = 0usize;
-    while i < n {
-        h = take_byte(
-            h,
-            input[i],
-            line,
-            image,
-            bytes,
-            out,
-            store,
-            frames,
-            bounds,
-            pointers,
-            vars,
-        );
-        i += 1;
-    }
-    h
-}
-
-// The input's end, after a line that ends with it.
-fn finish(
-    h: Held,
-    line: &mut [u8],
-    image: &mut [u8],
-    bytes: &mut [u8],
-    out: &mut [u8],
-    store: &mut [u8],
-    frames: &mut [u64],
-    bounds: &mut [u64],
-    pointers: &mut [u64],
-    vars: &mut [u64],
-) -> Held {
-    let mut n = h;
-    if h.length != 0 {
-        n = respond(
-            h,
-            line,
-            image,
-            bytes,
-            out,
-            store,
-            frames,
-            bounds,
-            pointers,
-            vars,
-        );
-    }
-    n.ended = 1;
-    n
-}
-
-// Some more of the input.
+// Some more of the input, and the answer where a line is whole.
 fn take_more(
-    h: Held,
+    t: Talk,
     input: &mut [u8],
     line: &mut [u8],
     image: &mut [u8],
@@ -197,57 +169,37 @@ fn take_more(
     bounds: &mut [u64],
     pointers: &mut [u64],
     vars: &mut [u64],
-) -> Held {
-    match read_input(input) {
-        Got::Bytes(n) => {
-            let end = within(n, input);
-            take_bytes(
-                h,
-                &input[..end],
-                line,
-                image,
-                bytes,
-                out,
-                store,
-                frames,
-                bounds,
-                pointers,
-                vars,
-            )
-        }
-        Got::End => finish(
-            h,
-            line,
-            image,
-            bytes,
-            out,
-            store,
-            frames,
-            bounds,
-            pointers,
-            vars,
-        ),
-        Got::Failed => {
-            let mut n = h;
-            n.ended = 1;
-            n
-        }
-    }
+) -> Talk {
+    let before = t.held;
+    let held = advance(before, input, line);
+    respond(
+        with_held(t, held),
+        line,
+        image,
+        bytes,
+        out,
+        store,
+        frames,
+        bounds,
+        pointers,
+        vars,
+    )
 }
 
 // A proved loop has to end, and nothing says that the input does: turns are counted down from a number that no run uses up.
-fn turns_left(ended: u64, turns: u64) -> u64
+fn turns_left(t: Talk, turns: u64) -> u64
     requires { ⌜ 0 < turns ⌝ }
     ensures { λ r. ⌜ r < turns ⌝ }
 {
-    if ended == 1 {
+    let h = t.held;
+    if h.ended == 1 {
         return 0;
     }
     turns - 1
 }
 
 fn converse(
-    start: Held,
+    start: Talk,
     input: &mut [u8],
     line: &mut [u8],
     image: &mut [u8],
@@ -259,11 +211,11 @@ fn converse(
     pointers: &mut [u64],
     vars: &mut [u64],
 ) {
-    let mut h = start;
+    let mut t = start;
     let mut turns = u64::MAX;
     while 0 < turns {
-        h = take_more(
-            h,
+        t = take_more(
+            t,
             input,
             line,
             image,
@@ -275,8 +227,20 @@ fn converse(
             pointers,
             vars,
         );
-        turns = turns_left(h.ended, turns);
+        turns = turns_left(t, turns);
     }
+}
+
+// The first line of a session on fresh memory, with no image.
+fn first(m: Registers) -> Talk {
+    let held = Held {
+        length: 0,
+        at: 0,
+        end: 0,
+        whole: 0,
+        ended: 0,
+    };
+    Talk { m, image: 0, held }
 }
 
 fn open(line: &mut [u8], image: &mut [u8], bytes: &mut [u8], out: &mut [u8]) {
@@ -294,7 +258,7 @@ fn open(line: &mut [u8], image: &mut [u8], bytes: &mut [u8], out: &mut [u8]) {
         &mut vars,
     ) {
         Moved::Done(m) => converse(
-            next_line(Session { m, image: 0 }),
+            first(m),
             &mut input,
             line,
             image,
@@ -310,20 +274,21 @@ fn open(line: &mut [u8], image: &mut [u8], bytes: &mut [u8], out: &mut [u8]) {
     }
 }
 
-// The large arrays go by references that have their lengths in their types, so that the check never spells them out.
+// The large arrays go by references that have their lengths in their types, so that the check never spells them out. The longest answer
+// is a dump of full tables: 1,114,488 bytes, of which 64 frames with 512 lengths each are 692,224 and 4,096 pointers are 348,183.
 fn open_with(
-    line: &mut [u8; 262144],
+    line: &mut [u8; 262145],
     image: &mut [u8; 131072],
     bytes: &mut [u8; 131072],
-    out: &mut [u8; 524288],
+    out: &mut [u8; 1114488],
 ) {
     open(line, image, bytes, out);
 }
 
 pub fn run() {
-    let mut line = [0u8; 262144];
+    let mut line = [0u8; 262145];
     let mut image = [0u8; 131072];
     let mut bytes = [0u8; 131072];
-    let mut out = [0u8; 524288];
+    let mut out = [0u8; 1114488];
     open_with(&mut line, &mut image, &mut bytes, &mut out);
 }

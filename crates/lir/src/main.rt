@@ -1,12 +1,9 @@
 // The program: runs an image, checks one, or drives the evaluator by hand. It moves bytes between files and proved functions.
-mod answer;
 mod bound;
 mod dialog;
 mod file;
-mod live;
 mod once;
 mod say;
-mod session;
 
 use words::word::same;
 

@@ -1,40 +1,22 @@
--- `dialog::take_more` is safe: what was read is taken, and the input keeps its length.
+-- `dialog::take_more` is safe: the input and the line keep their lengths.
 use borrow.Author.Needs.{needs}
 use Rattle.lir.proofs.dialog.take_more.Statement.{statement}
 use Rattle.lir.proofs.dialog.take_more.Tie as tie
 
-read-input-requires : tie.Need-read-input-requires
-read-input-requires c κs = search needs
+advance-requires : tie.Need-advance-requires
+advance-requires c κs = search needs
 
-enum-known-n : tie.Need-enum-known-n
-enum-known-n c = search needs
+with-held-requires : tie.Need-with-held-requires
+with-held-requires c κs = search needs
 
-within-requires : tie.Need-within-requires
-within-requires c κs = search needs
-
-slice-reshare-prefix-take-bytes : tie.Need-slice-reshare-prefix-take-bytes
-slice-reshare-prefix-take-bytes c = search needs
-
-slice-aggregate-take-bytes : tie.Need-slice-aggregate-take-bytes
-slice-aggregate-take-bytes c = search needs
-
-take-bytes-requires : tie.Need-take-bytes-requires
-take-bytes-requires c κs = search needs
-
-enum-told : tie.Need-enum-told
-enum-told c = search needs
-
-finish-requires : tie.Need-finish-requires
-finish-requires c κs = search needs
-
-enum-told-2 : tie.Need-enum-told-2
-enum-told-2 c = search needs
+respond-requires : tie.Need-respond-requires
+respond-requires c κs = search needs
 
 same-length : tie.Need-same-length
-same-length c = c .before .before .before .before .before .before .before .before .before .before .before .before .before .before .before .before .before .before .before .before .before .before .before .before .before .before .before .before .before .before .before .before .before .before .before .before .read-input .kept .0
+same-length c = c .before .before .before .before .before .before .before .before .before .before .before .before .before .before .before .before .before .before .before .before .before .before .before .before .before .before .before .before .before .before .before .advance .kept .1 .0
 
 same-length-2 : tie.Need-same-length-2
-same-length-2 c = search needs
+same-length-2 c = c .before .before .before .before .before .before .before .before .before .before .before .before .before .before .before .before .before .before .before .before .before .before .before .before .before .before .before .before .before .before .before .advance .kept .1 .1 .0
 
 same-length-3 : tie.Need-same-length-3
 same-length-3 c = search needs
@@ -63,58 +45,13 @@ same-length-10 c = search needs
 returns : tie.Need-returns
 returns c = search needs
 
-same-length-11 : tie.Need-same-length-11
-same-length-11 c = c .before .before .before .before .before .before .before .before .before .before .before .before .before .before .before .before .before .before .before .before .before .before .before .before .before .before .before .before .before .before .before .before .read-input .kept .0
-
-same-length-12 : tie.Need-same-length-12
-same-length-12 c = search needs
-
-same-length-13 : tie.Need-same-length-13
-same-length-13 c = search needs
-
-same-length-14 : tie.Need-same-length-14
-same-length-14 c = search needs
-
-same-length-15 : tie.Need-same-length-15
-same-length-15 c = search needs
-
-same-length-16 : tie.Need-same-length-16
-same-length-16 c = search needs
-
-same-length-17 : tie.Need-same-length-17
-same-length-17 c = search needs
-
-same-length-18 : tie.Need-same-length-18
-same-length-18 c = search needs
-
-same-length-19 : tie.Need-same-length-19
-same-length-19 c = search needs
-
-same-length-20 : tie.Need-same-length-20
-same-length-20 c = search needs
-
-returns-2 : tie.Need-returns-2
-returns-2 c = search needs
-
-same-length-21 : tie.Need-same-length-21
-same-length-21 c = search needs
-
-returns-3 : tie.Need-returns-3
-returns-3 c = search needs
-
 pub take-more-spec : {M : Type 1} → statement M
 take-more-spec =
     tie.close
     (tie.spec
-    read-input-requires
-    enum-known-n
-    within-requires
-    slice-reshare-prefix-take-bytes
-    slice-aggregate-take-bytes
-    take-bytes-requires
-    enum-told
-    finish-requires
-    enum-told-2
+    advance-requires
+    with-held-requires
+    respond-requires
     same-length
     same-length-2
     same-length-3
@@ -125,17 +62,4 @@ take-more-spec =
     same-length-8
     same-length-9
     same-length-10
-    returns
-    same-length-11
-    same-length-12
-    same-length-13
-    same-length-14
-    same-length-15
-    same-length-16
-    same-length-17
-    same-length-18
-    same-length-19
-    same-length-20
-    returns-2
-    same-length-21
-    returns-3)
+    returns)
