@@ -1,12 +1,12 @@
--- "state RUNNING NEXT COUNTER | F F.. | COUNT P P.. | I=KIND:BITS .. | COUNT HEX", and the live list: the pieces of each part.
-use Prim.Native.Nat.{ℕ, _/_}
+-- "state RUNNING NEXT COUNTER | F F.. | COUNT P P.. | I=KIND:BITS .. | COUNT HEX": the pieces of each part.
+use Prim.Native.Nat.{ℕ}
 use mathlib.Core.List.{List, [], _∷_, _++_}
 use lib.ListN.{length}
 use Rattle.words.specs.Ascii.{ascii}
 use Rattle.words.specs.Number.{decimal}
 use Rattle.words.specs.Hex.{hexOf}
 use Rattle.words.specs.Kinds.{nameOf}
-use Rattle.answers.specs.Lines.{Pieces, ending, labelled, liveRecord}
+use Rattle.answers.specs.Lines.{Pieces, ending, labelled}
 use Rattle.answers.specs.declared.Var.{Var}
 use Rattle.answers.specs.declared.Var.the-variants.{None, At}
 
@@ -55,15 +55,3 @@ variableText i t b = labelled (ascii " ") i ++ (ascii "=" ∷ nameOf t ∷ []) +
 -- "| COUNT HEX", after a space
 abbrev pub storeText : List ℕ → Pieces
 storeText bs = labelled (ascii " | ") (length bs) ++ (ascii " " ∷ hexOf bs ∷ ending)
-
--- "for each pointer ` L FRAME ALLOCATION OFFSET`"
-unfoldable pub liveRows : List ℕ → Pieces
-liveRows [] = []
-liveRows (l ∷ []) = []
-liveRows (l ∷ f ∷ []) = []
-liveRows (l ∷ f ∷ a ∷ []) = []
-liveRows (l ∷ f ∷ a ∷ o ∷ rest) = liveRecord l f a o ++ liveRows rest
-
--- "`live COUNT` and for each pointer .."
-abbrev pub liveLine : List ℕ → Pieces
-liveLine rows = labelled (ascii "live ") (length rows / 4) ++ liveRows rows ++ ending

@@ -1,7 +1,6 @@
-// The pieces of a dump line and of the live list.
+// The pieces of a dump line.
 use crate::Var;
 use crate::line::write_labelled;
-use crate::line::write_live;
 use words::Written;
 use words::hex::write_hex;
 use words::kind::write_kind;
@@ -10,7 +9,7 @@ use words::text::write_bytes;
 ghost use mathlib.Core.Path.{_≡_};
 ghost use lib.ListN.{drop};
 ghost use Rattle.words.specs.Text.{text, puts};
-ghost use Rattle.answers.specs.Dump.{stateText, varText, nextLength, moreLengths, lengthsText, frameHead, frameText, constantText, localText, variableText, storeText, liveRows, liveLine};
+ghost use Rattle.answers.specs.Dump.{stateText, varText, nextLength, moreLengths, lengthsText, frameHead, frameText, constantText, localText, variableText, storeText};
 
 // `state RUNNING NEXT COUNTER |`
 pub fn write_state(out: &mut [u8], at: Written, running: u64, next: u64, counter: u64) -> Written
@@ -131,27 +130,4 @@ pub fn write_store(out: &mut [u8], at: Written, bytes: &[u8]) -> Written
     let b = write_bytes(out, a, b" ");
     let c = write_hex(out, b, bytes);
     write_bytes(out, c, b"\n")
-}
-
-// The records of the live list, four numbers each.
-fn write_live_rows(out: &mut [u8], at: Written, rows: &[u64]) -> Written
-    ensures { λ r. ⌜ text r (now (out .exit)) ≡ puts (liveRows (now (rows .entry))) (text at (now (out .entry))) ⌝ }
-{
-    let mut a = at;
-    let mut i = 0;
-    while i < rows.len() / 4 {
-        let j = i * 4;
-        a = write_live(out, a, rows[j], rows[j + 1], rows[j + 2], rows[j + 3]);
-        i += 1;
-    }
-    a
-}
-
-// `live COUNT` and the records.
-pub fn write_live_list(out: &mut [u8], at: Written, rows: &[u64]) -> Written
-    ensures { λ r. ⌜ text r (now (out .exit)) ≡ puts (liveLine (now (rows .entry))) (text at (now (out .entry))) ⌝ }
-{
-    let a = write_labelled(out, at, b"live ", (rows.len() / 4) as u64);
-    let b = write_live_rows(out, a, rows);
-    write_bytes(out, b, b"\n")
 }
