@@ -3,8 +3,8 @@ pub mod answer;
 mod begin;
 mod bound;
 pub mod live;
-pub mod run;
 pub mod session;
+pub mod start_line;
 
 use memory::Registers;
 use words::Written;

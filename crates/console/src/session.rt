@@ -13,7 +13,7 @@ use crate::begin::budget_of;
 use crate::bound::least;
 use crate::bound::within;
 use crate::live::write_live;
-use crate::run::write_unread;
+use crate::start_line::write_unread;
 use answers::line::write_image_taken;
 use answers::line::write_ok;
 use by_hand::dump::write_dump;

@@ -4,9 +4,13 @@ use crate::file::Got;
 use crate::file::read_first_line;
 use crate::file::read_image;
 use crate::say;
+use answers::line::write_image_refused;
 use console::answer::write_loaded;
-use console::run::answer_start;
+use console::start_line::answer_start;
 use loader::load::load;
+use reader::Headed;
+use reader::read_header;
+use words::Written;
 
 fn print_answer(image: &[u8], line: &[u8]) {
     let mut out = [0u8; 128];
@@ -39,9 +43,22 @@ fn run_image(image: &[u8], buffer: &mut [u8]) {
     }
 }
 
+// The header first, by the reader that holds its place: what it refuses, loading refuses alike.
+fn write_checked(out: &mut [u8], image: &[u8]) -> Written {
+    match read_header(image) {
+        Headed::Refused(number, place) => write_image_refused(
+            out,
+            Written::To(0),
+            number,
+            place as u64,
+        ),
+        Headed::Taken(_, _, _) => write_loaded(out, load(image)),
+    }
+}
+
 fn print_loaded(image: &[u8]) {
     let mut out = [0u8; 128];
-    let to = write_loaded(&mut out, load(image));
+    let to = write_checked(&mut out, image);
     say::answer(&out, to);
 }
 

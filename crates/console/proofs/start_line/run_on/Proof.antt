@@ -1,8 +1,8 @@
 -- `run::run_on` meets its contract: the start, and the run that follows.
 use Rattle.console.proofs.Starting.{begun-runs}
 use borrow.Author.Needs.{needs}
-use Rattle.console.proofs.run.run_on.Statement.{statement}
-use Rattle.console.proofs.run.run_on.Tie as tie
+use Rattle.console.proofs.start_line.run_on.Statement.{statement}
+use Rattle.console.proofs.start_line.run_on.Tie as tie
 
 begin-requires : tie.Need-begin-requires
 begin-requires c κs = search needs

@@ -1,8 +1,8 @@
 -- `run::run_fresh` meets its contract: on the memory that was made.
 use Rattle.console.proofs.Starting.{made-runs, unmade-stays}
 use borrow.Author.Needs.{needs}
-use Rattle.console.proofs.run.run_fresh.Statement.{statement}
-use Rattle.console.proofs.run.run_fresh.Tie as tie
+use Rattle.console.proofs.start_line.run_fresh.Statement.{statement}
+use Rattle.console.proofs.start_line.run_fresh.Tie as tie
 
 fresh-requires : tie.Need-fresh-requires
 fresh-requires c κs = search needs

@@ -2,8 +2,8 @@
 use mathlib.Core.Path.{refl, sym, _∙_}
 use Rattle.console.proofs.Starting.{from-case}
 use borrow.Author.Needs.{needs}
-use Rattle.console.proofs.run.run_from.Statement.{statement}
-use Rattle.console.proofs.run.run_from.Tie as tie
+use Rattle.console.proofs.start_line.run_from.Statement.{statement}
+use Rattle.console.proofs.start_line.run_from.Tie as tie
 
 enum-known-e : tie.Need-enum-known-e
 enum-known-e c = search needs

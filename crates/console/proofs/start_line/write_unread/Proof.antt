@@ -1,8 +1,8 @@
 -- `run::write_unread` meets its contract: the place is counted from 1.
 use Rattle.console.proofs.Starting.{unread-told}
 use borrow.Author.Needs.{needs}
-use Rattle.console.proofs.run.write_unread.Statement.{statement}
-use Rattle.console.proofs.run.write_unread.Tie as tie
+use Rattle.console.proofs.start_line.write_unread.Statement.{statement}
+use Rattle.console.proofs.start_line.write_unread.Tie as tie
 
 wrapping-add-u64-requires : tie.Need-wrapping-add-u64-requires
 wrapping-add-u64-requires c κs = search needs

@@ -2,8 +2,8 @@
 use mathlib.Core.Path.{refl, sym, _∙_}
 use Rattle.console.proofs.Starting.{start-long, start-unread, start-runs}
 use borrow.Author.Needs.{needs}
-use Rattle.console.proofs.run.answer_start.Statement.{statement}
-use Rattle.console.proofs.run.answer_start.Tie as tie
+use Rattle.console.proofs.start_line.answer_start.Statement.{statement}
+use Rattle.console.proofs.start_line.answer_start.Tie as tie
 
 write-unread-requires : tie.Need-write-unread-requires
 write-unread-requires c κs = search needs
