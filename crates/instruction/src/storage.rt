@@ -1,11 +1,10 @@
-// The instructions that reach through pointers: Initialize, Write, Read, Copy, and Drop.
+// The instructions that reach through pointers: Initialize, Write, Read and Copy.
 ghost use mathlib.Core.Path.{_≡_};
 ghost use Rattle.memory.specs.Tables.{tables, both, out};
 ghost use Rattle.instruction.specs.Compute.{foundOf};
 ghost use Rattle.value.specs.Ir.{typeOf};
 ghost use Rattle.instruction.specs.Code.{stepped};
 ghost use Rattle.instruction.specs.Storage.{progressOf, storedOf, writeOf, loadedAs, readAs, readingOf, madeOf, initializedOf, copyingOf};
-ghost use Rattle.instruction.specs.declared.step.Progress.the-variants.{Next};
 use crate::field::read_field;
 use crate::field::read_operand;
 use crate::pointer::as_pointer;
@@ -276,11 +275,4 @@ pub fn copy(
         extents,
     );
     progress(m, r)
-}
-
-// Drop: operand; it evaluates nothing.
-pub fn drop_value(m: Registers) -> Progress
-    ensures { λ r. ⌜ r ≡ Next m ⌝ }
-{
-    Progress::Next(m)
 }
