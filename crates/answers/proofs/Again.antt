@@ -1,6 +1,6 @@
 -- What is written can be read again: no number, name or HEX holds a space or a line's end, so a line's words are those that were meant, and the
 -- reader of each says what was written.
-use Prim.Native.Nat.{ℕ, suc, _+_, _/_, _%_, _^_, _<_}
+use Prim.Native.Nat.{ℕ, suc, _+_, _/_, _%_, _^_, _<_, _≤_}
 use native.Mathlib.Decide.{decLe, ℕ-discrete}
 use native.Mathlib.Omega.{arith}
 use mathlib.Core.Bool.{Bool, true, false}
@@ -24,6 +24,7 @@ use Rattle.words.proofs.Numbers.{first, all-decimal}
 use Rattle.words.proofs.Bytes as Bytes
 use Rattle.words.proofs.Names as Names
 use Rattle.words.proofs.Names.{names-count}
+use Rattle.words.proofs.Parting.{last-part}
 use Rattle.words.proofs.Reading.{in-kind, pair-value}
 use Rattle.words.proofs.Table.{every, entry}
 use Rattle.words.proofs.Whole.{joined}
@@ -60,12 +61,22 @@ module _ (b : ℕ) where
         | no e ↦ rw (ne-eqb x b e) (ap (onto x) (part-first last w rest (less (rw (ne-eqb x b e) at h))))
       ]
 
-  digits-without : b < 48 → (w : List ℕ) → allDigits w ≡ true → Without b w
+  -- bytes without b are one part
+  part-last : (w : List ℕ) → Without b w → parts b ([] ∷ []) w ≡ w ∷ []
+  unfolding parts
+  part-last [] h = refl
+  part-last (x ∷ w) h = last-part b ([] ∷ []) (λ y. refl) x w (omega (arith, h))
+
+  digits-without : (48 ≤ b → b ≤ 57 → ⊥) → (w : List ℕ) → allDigits w ≡ true → Without b w
   unfolding until
-  digits-without l [] h = refl
-  digits-without l (x ∷ w) h =
+  digits-without o [] h = refl
+  digits-without o (x ∷ w) h =
       let f = first x w h in
-      rw (ne-eqb x b (λ e. omega (arith, f .low))) (ap suc (digits-without l w (f .after)))
+      rw (ne-eqb x b (λ e. o (omega (arith, f .low)) (omega (arith, f .high)))) (ap suc (digits-without o w (f .after)))
+
+  -- no number holds a byte that is no digit
+  pub number-without : (48 ≤ b → b ≤ 57 → ⊥) → (n : ℕ) → Without b (decimal n)
+  number-without o n = digits-without o (decimal n) (all-decimal n)
 
   glyph-other : b < 45 → (d : ℕ) → eqb (glyph d) b ≡ false
   glyph-other l d = go (ltb d 10)
@@ -84,21 +95,12 @@ module _ (b : ℕ) where
   hex-without l [] = rw (ne-eqb 45 b (λ e. omega arith))
   hex-without l (x ∷ bs) = pairs-without l (x ∷ bs)
 
-last-word : (w : List ℕ) → Without 32 w → words w ≡ w ∷ []
-unfolding until words parts
-last-word [] h = refl
-last-word (x ∷ w) h =
-    elim (ℕ-discrete x 32) [
-      | yes e ↦ absurd (none (rw (eq-eqb x 32 e) at h))
-      | no e ↦ rw (ne-eqb x 32 e) (ap (onto x) (last-word w (less (rw (ne-eqb x 32 e) at h))))
-    ]
-
--- no name holds a space or a line's end
-name-test : (b : ℕ) → ℕ → List ℕ → Bool
+-- no name holds a space, a line's end, `:` or `=`
+pub name-test : (b : ℕ) → ℕ → List ℕ → Bool
 name-test b t n = eqb (until b n) (length n)
 
 module _ (b : ℕ) (pass : every (name-test b) 0 names ≡ true) where
-  name-without : (t : ℕ) → Without b (nameOf t)
+  pub name-without : (t : ℕ) → Without b (nameOf t)
   unfolding nameOf name-test until
   name-without t =
       elim (decLe 15 t) [
@@ -113,6 +115,14 @@ no-space = refl
 no-end : every (name-test 10) 0 names ≡ true
 unfolding name-test until names name kinds
 no-end = refl
+
+pub no-colon : every (name-test 58) 0 names ≡ true
+unfolding name-test until names name kinds
+no-colon = refl
+
+pub no-equals : every (name-test 61) 0 names ≡ true
+unfolding name-test until names name kinds
+no-equals = refl
 
 -- ---- the shape of a line
 
@@ -151,20 +161,20 @@ says (hex bs) h = Bytes.there bs h
 
 one-word : (i : Item) → Held i → Without 32 (shown i)
 one-word (fixed w) h = h .0
-one-word (num n) h = digits-without 32 (omega arith) (decimal n) (all-decimal n)
+one-word (num n) h = number-without 32 (λ l u. omega arith) n
 one-word (kind t) h = name-without 32 no-space t
 one-word (hex bs) h = hex-without 32 (omega arith) bs
 
 one-line : (i : Item) → Held i → Without 10 (shown i)
 one-line (fixed w) h = h .1
-one-line (num n) h = digits-without 10 (omega arith) (decimal n) (all-decimal n)
+one-line (num n) h = number-without 10 (λ l u. omega arith) n
 one-line (kind t) h = name-without 10 no-end t
 one-line (hex bs) h = hex-without 10 (omega arith) bs
 
--- words with one space between, and the same with the line's end
-abbrev pub spaced : Item → List Item → List ℕ
-spaced i [] = shown i
-spaced i (j ∷ is) = shown i ++ (32 ∷ spaced j is)
+-- words with one byte between, and those with one space between and the line's end
+abbrev pub parted : ℕ → Item → List Item → List ℕ
+parted b i [] = shown i
+parted b i (j ∷ is) = shown i ++ (b ∷ parted b j is)
 
 abbrev pub ended : Item → List Item → List ℕ
 ended i [] = shown i ++ (10 ∷ [])
@@ -176,34 +186,49 @@ All P i (j ∷ is) = P i × All P j is
 
 -- a text is one line, its words are those that were meant, and each reader says what was written
 pub record Again (text : List ℕ) (i : Item) (is : List Item) : Type 0 where
-  pub line : lines text ≡ spaced i is ∷ []
-  pub words : words (spaced i is) ≡ map shown (i ∷ is)
+  pub line : lines text ≡ parted 32 i is ∷ []
+  pub words : words (parted 32 i is) ≡ map shown (i ∷ is)
   pub said : All Says i is
 
-spaced-words : (i : Item) (is : List Item) → All Held i is → words (spaced i is) ≡ map shown (i ∷ is)
-unfolding words
-spaced-words i [] h = last-word (shown i) (one-word i h)
-spaced-words i (j ∷ is) h = part-first 32 ([] ∷ []) (shown i) (spaced j is) (one-word i (h .0)) ∙ ap (λ (ws : List (List ℕ)). shown i ∷ ws) (spaced-words j is (h .1))
+-- words parted by a byte are one word of a line, are found again at that byte, and each reader says what was written
+pub record Apart (b : ℕ) (i : Item) (is : List Item) : Type 0 where
+  pub whole : Held (fixed (parted b i is))
+  pub parts : parts b ([] ∷ []) (parted b i is) ≡ map shown (i ∷ is)
+  pub said : All Says i is
 
-spaced-line : (i : Item) (is : List Item) → All Held i is → Without 10 (spaced i is)
+abbrev pub Lacks : ℕ → Item → Type 0
+Lacks b i = Without b (shown i)
+
+parted-parts : (b : ℕ) (i : Item) (is : List Item) → All (Lacks b) i is → parts b ([] ∷ []) (parted b i is) ≡ map shown (i ∷ is)
+parted-parts b i [] h = part-last b (shown i) h
+parted-parts b i (j ∷ is) h = part-first b ([] ∷ []) (shown i) (parted b j is) (h .0) ∙ ap (λ (ws : List (List ℕ)). shown i ∷ ws) (parted-parts b j is (h .1))
+
+pub parted-without : (b c : ℕ) → eqb b c ≡ false → (i : Item) (is : List Item) → All (Lacks c) i is → Without c (parted b i is)
 unfolding until
-spaced-line i [] h = one-line i h
-spaced-line i (j ∷ is) h = without-append 10 (shown i) (32 ∷ spaced j is) (one-line i (h .0)) (ap suc (spaced-line j is (h .1)))
+parted-without b c n i [] h = h
+parted-without b c n i (j ∷ is) h = without-append c (shown i) (b ∷ parted b j is) (h .0) (rw n (ap suc (parted-without b c n j is (h .1))))
 
-ended-is : (i : Item) (is : List Item) → ended i is ≡ spaced i is ++ (10 ∷ [])
+ended-is : (i : Item) (is : List Item) → ended i is ≡ parted 32 i is ++ (10 ∷ [])
 ended-is i [] = refl
-ended-is i (j ∷ is) = ap (λ (l : List ℕ). shown i ++ (32 ∷ l)) (ended-is j is) ∙ sym (append-assoc (shown i) (32 ∷ spaced j is) (10 ∷ []))
+ended-is i (j ∷ is) = ap (λ (l : List ℕ). shown i ++ (32 ∷ l)) (ended-is j is) ∙ sym (append-assoc (shown i) (32 ∷ parted 32 j is) (10 ∷ []))
 
-all-say : (i : Item) (is : List Item) → All Held i is → All Says i is
-all-say i [] h = says i h
-all-say i (j ∷ is) h = (says i (h .0), all-say j is (h .1))
+all-map : (P Q : Item → Type 0) → ((i : Item) → P i → Q i) → (i : Item) (is : List Item) → All P i is → All Q i is
+all-map P Q f i [] h = f i h
+all-map P Q f i (j ∷ is) h = (f i (h .0), all-map P Q f j is (h .1))
 
 pub again : (i : Item) (is : List Item) → All Held i is → Again (ended i is) i is
-unfolding lines parts
+unfolding lines words parts
 again i is h = record {
-  line = ap lines (ended-is i is) ∙ part-first 10 [] (spaced i is) [] (spaced-line i is h);
-  words = spaced-words i is h;
-  said = all-say i is h;
+  line = ap lines (ended-is i is) ∙ part-first 10 [] (parted 32 i is) [] (parted-without 32 10 refl i is (all-map Held (Lacks 10) one-line i is h));
+  words = parted-parts 32 i is (all-map Held (Lacks 32) one-word i is h);
+  said = all-map Held Says says i is h;
+}
+
+pub apart : (b : ℕ) → eqb b 32 ≡ false → eqb b 10 ≡ false → (i : Item) (is : List Item) → All (Lacks b) i is → All Held i is → Apart b i is
+apart b m n i is l h = record {
+  whole = (parted-without b 32 m i is (all-map Held (Lacks 32) one-word i is h), parted-without b 10 n i is (all-map Held (Lacks 10) one-line i is h));
+  parts = parted-parts b i is l;
+  said = all-map Held Says says i is h;
 }
 
 -- a kind and its bits, read as a pair

@@ -1,2 +1,4 @@
+pub mod Again
 pub mod Changing
+pub mod Parted
 pub mod Showing
