@@ -2,7 +2,7 @@
 
 use lir::{write_image, Live, Machine, Ran, Refusal, Refused, Value};
 
-const P1: &[u8] = &[1, 3, 0, 1, 1, 0, 0, 0, 1, 0, 1, 2, 0, 2, 8, 2, 0, 2, 2, 1, 5, 1, 0, 2];
+const P1: &[u8] = include_bytes!("../../../examples/p1.image");
 
 fn refused<T>(why: Refusal) -> Result<T, Refused> {
     Err(Refused { why, place: None })
