@@ -25,12 +25,13 @@ use Rattle.instruction.specs.declared.step.Progress.{Progress}
 use Rattle.instruction.specs.declared.step.Progress.the-variants.{Next, Ended, Refused}
 use Rattle.eval.specs.Loaded.{itemsOf}
 use Rattle.eval.specs.Entry.{runLoaded, runEntered, steppedAs, steppedFrom, staying, stepLoaded, stepEntered}
+use Rattle.eval.specs.After.{afterEntered}
 use Rattle.run.specs.Run.{resting, ranOf}
 use Rattle.run.specs.declared.Ran.the-variants as ran
 use Rattle.eval.specs.declared.entry.Entered.the-variants as entered
 use Rattle.step.specs.Step.{steppedOf}
 use Rattle.agree.specs.Seen.{Runs, seen, Kept, Agrees}
-use Rattle.agree.specs.Turns.{ranState, ranTurn, enteredReply, enteredRegisters, enteredState, enteredTurn}
+use Rattle.agree.specs.Turns.{ranState, ranTurn, enteredReply, enteredState, enteredTurn}
 use Rattle.agree.proofs.Whole.{seen-sound}
 use Rattle.agree.proofs.Loaded.{loaded-follows}
 use Rattle.agree.proofs.Step.{step-agrees}
@@ -51,18 +52,18 @@ loaded-end s P e h = go (image s) h
     go (refused n p) d = absurd (let z : _≡_ {A = ℕ} 0 1 = cc in omega arith)
 
 -- what is said of a step, as a turn
-step-turn : (t : State) (p : Progress) (after : Registers → State) (x : Answer (Stepped Memory)) → Agrees t p after x → turn (enteredReply (steppedAs p)) (seen (after (enteredRegisters (t .memory .registers) (steppedAs p)))) ≡ steps (seen t) x
+step-turn : (t : State) (p : Progress) (after : Registers → State) (x : Answer (Stepped Memory)) → Agrees t p after x → turn (enteredReply (steppedAs p)) (seen (after (afterEntered (steppedAs p) (t .memory .registers)))) ≡ steps (seen t) x
 unfolding steps
 step-turn t (Next m) after x g = rw (sym (g .same)) refl
 step-turn t (Ended m v) after x g = rw (sym (g .same)) refl
 step-turn t (Refused n) after x g = rw (sym (g .same)) (ap (λ (u : State). turn (refusal n) (seen u)) (g .kept))
 
-kept-turn : (t : State) → soundOf t ≡ true → (p : Progress) (after : Registers → State) → Kept t p after → soundOf (after (enteredRegisters (t .memory .registers) (steppedAs p))) ≡ true
+kept-turn : (t : State) → soundOf t ≡ true → (p : Progress) (after : Registers → State) → Kept t p after → soundOf (after (afterEntered (steppedAs p) (t .memory .registers))) ≡ true
 kept-turn t so (Next m) after k = k .sound
 kept-turn t so (Ended m v) after k = k .0
 kept-turn t so (Refused n) after k = rw k so
 
-kept-bytes : (t : State) → AreBytes (t .memory .store) → (p : Progress) (after : Registers → State) → Kept t p after → AreBytes (after (enteredRegisters (t .memory .registers) (steppedAs p)) .memory .store)
+kept-bytes : (t : State) → AreBytes (t .memory .store) → (p : Progress) (after : Registers → State) → Kept t p after → AreBytes (after (afterEntered (steppedAs p) (t .memory .registers)) .memory .store)
 kept-bytes t b (Next m) after k = k .bytes
 kept-bytes t b (Ended m v) after k = k .1
 kept-bytes t b (Refused n) after k = subst (λ (u : State). AreBytes (u .memory .store)) (sym k) b

@@ -14,6 +14,7 @@ use Rattle.machine.specs.Asks.{Reply, done, gave, bytes, lists, returned, refus
 use Rattle.machine.specs.Asks as Asks
 use Rattle.run.specs.Run.{Running}
 use Rattle.eval.specs.Entry.{Entering, Reading}
+use Rattle.eval.specs.After.{afterEntered, afterRun, afterGiven}
 use Rattle.run.specs.declared.Ran.{Ran}
 use Rattle.run.specs.declared.Ran.the-variants as ran
 use Rattle.eval.specs.declared.entry.Entered.{Entered}
@@ -22,8 +23,7 @@ use Rattle.eval.specs.declared.entry.Readout.{Readout}
 use Rattle.eval.specs.declared.entry.Readout.the-variants as readout
 use Rattle.agree.specs.Seen.{seen, returnedIn}
 
--- Each entry's answer has a reply and registers. A refusal hands out no registers: the caller's own stand, `before`.
--- An image that is not loaded is refused by its number.
+-- An image that is not loaded is refused by its number. `before` are the caller's registers.
 
 -- ---- run
 
@@ -35,15 +35,8 @@ ranReply (ran.Stopped m number count) = Asks.ran (Machine.stopped number) count
 ranReply (ran.Refused number) = refusal number
 ranReply (ran.NotLoaded number place) = refusal number
 
-abbrev pub ranRegisters : (before : Registers) → Ran → Registers
-ranRegisters before (ran.Returned m v count) = m
-ranRegisters before (ran.Paused m count) = m
-ranRegisters before (ran.Stopped m number count) = m
-ranRegisters before (ran.Refused number) = before
-ranRegisters before (ran.NotLoaded number place) = before
-
 abbrev pub ranState : (before : Registers) → Running → State
-ranState before r = state (tables (ranRegisters before (r .answer)) (r .store) (r .frames) (r .bounds) (r .pointers)) (r .variables)
+ranState before r = state (tables (afterRun (r .answer) before) (r .store) (r .frames) (r .bounds) (r .pointers)) (r .variables)
 
 abbrev pub ranTurn : (before : Registers) → Running → Turn Memory
 ranTurn before r = turn (ranReply (r .answer)) (seen (ranState before r))
@@ -56,14 +49,8 @@ enteredReply (entered.Returned m v) = returned (returnedIn v)
 enteredReply (entered.Refused number) = refusal number
 enteredReply (entered.NotLoaded number place) = refusal number
 
-abbrev pub enteredRegisters : (before : Registers) → Entered → Registers
-enteredRegisters before (entered.Went m) = m
-enteredRegisters before (entered.Returned m v) = m
-enteredRegisters before (entered.Refused number) = before
-enteredRegisters before (entered.NotLoaded number place) = before
-
 abbrev pub enteredState : (before : Registers) → Entering → State
-enteredState before r = state (tables (enteredRegisters before (r .answer)) (r .store) (r .frames) (r .bounds) (r .pointers)) (r .variables)
+enteredState before r = state (tables (afterEntered (r .answer) before) (r .store) (r .frames) (r .bounds) (r .pointers)) (r .variables)
 
 abbrev pub enteredTurn : (before : Registers) → Entering → Turn Memory
 enteredTurn before r = turn (enteredReply (r .answer)) (seen (enteredState before r))
@@ -74,12 +61,8 @@ abbrev pub allocatedReply : Given → Reply
 allocatedReply (given.Made p m) = gave p
 allocatedReply (given.Refused number) = refusal number
 
-abbrev pub allocatedRegisters : (before : Registers) → Given → Registers
-allocatedRegisters before (given.Made p m) = m
-allocatedRegisters before (given.Refused number) = before
-
 abbrev pub allocatedState : State → Out → State
-allocatedState t o = state (tables (allocatedRegisters (t .memory .registers) (o .answer)) (o .store) (o .frames) (o .bounds) (o .pointers)) (t .variables)
+allocatedState t o = state (tables (afterGiven (o .answer) (t .memory .registers)) (o .store) (o .frames) (o .bounds) (o .pointers)) (t .variables)
 
 abbrev pub allocatedTurn : State → Out → Turn Memory
 allocatedTurn t o = turn (allocatedReply (o .answer)) (seen (allocatedState t o))

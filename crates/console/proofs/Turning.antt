@@ -36,7 +36,7 @@ use Rattle.eval.specs.Start.{startEntered}
 use Rattle.eval.specs.Host.{hostAllocated, hostWritten}
 use Rattle.run.specs.declared.Ran.{Ran}
 use Rattle.eval.specs.declared.entry.Entered.{Entered}
-use Rattle.replies.specs.Words.{afterMoved, afterEntered, afterRun, afterGiven}
+use Rattle.eval.specs.After.{afterMoved, afterEntered, afterRun, afterGiven}
 use Rattle.console.specs.declared.Turn.{Turn}
 use Rattle.console.specs.Told.{line, ranLine, startLine, stepLine, freshLine, givenLine, outcomeLine, readLine, rewrittenLine}
 use Rattle.console.specs.Listed.{liveLineOf}

@@ -25,7 +25,7 @@ use Rattle.run.specs.Run.{Running}
 use Rattle.eval.specs.Entry.{Entering, Reading, runEntered, stepEntered, readEntered}
 use Rattle.eval.specs.Start.{startEntered}
 use Rattle.eval.specs.Host.{hostAllocated, hostWritten}
-use Rattle.replies.specs.Words.{afterMoved, afterEntered, afterRun, afterGiven}
+use Rattle.eval.specs.After.{afterMoved, afterEntered, afterRun, afterGiven}
 use Rattle.console.specs.Told.{line, ranLine, startLine, stepLine, freshLine, givenLine, outcomeLine, readLine, rewrittenLine}
 use Rattle.console.specs.Listed.{liveLineOf}
 use Rattle.console.specs.declared.Turn.{Turn}

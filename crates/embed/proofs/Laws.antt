@@ -26,7 +26,8 @@ use Rattle.run.specs.declared.Ran.{Ran}
 use Rattle.eval.specs.declared.entry.Entered.{Entered}
 use Rattle.eval.specs.declared.entry.Readout.{Readout}
 use Rattle.replies.specs.declared.words.Reply.{Reply}
-use Rattle.replies.specs.Words.{registersIn, wordsOf, replyWords, registersPut, replyPut, shapedOf, replyMoved, replyEntered, replyRun, replyGiven, replyRead, replyWritten, numberOf, afterMoved, afterEntered, afterRun, afterGiven}
+use Rattle.replies.specs.Words.{registersIn, wordsOf, replyWords, registersPut, replyPut, shapedOf, replyMoved, replyEntered, replyRun, replyGiven, replyRead, replyWritten, numberOf}
+use Rattle.eval.specs.After.{afterMoved, afterEntered, afterRun, afterGiven}
 use Rattle.embed.specs.Called.{Lent, lent, Gave, gave, registersOf, stateOf, ifShaped, giving, freshGave, freshCalled, enteredGave, startCalled, stepCalled, ranGave, runCalled, madeGave, allocateCalled, numbered, writeCalled, Filled, filled, filling, readGave, readCalled, imageCalled, Listed, listed, listGave, listCalled}
 
 -- ---- lengths

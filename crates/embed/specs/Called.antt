@@ -17,7 +17,8 @@ use Rattle.eval.specs.Start.{startEntered}
 use Rattle.eval.specs.Host.{hostAllocated, hostWritten, hostListed}
 use Rattle.memory.specs.declared.Outcome.{Outcome}
 use Rattle.replies.specs.declared.words.Reply.{Reply}
-use Rattle.replies.specs.Words.{registersIn, wordsOf, replyWords, shapedOf, replyMoved, replyEntered, replyRun, replyGiven, replyRead, replyWritten, numberOf, afterMoved, afterEntered, afterRun, afterGiven}
+use Rattle.replies.specs.Words.{registersIn, wordsOf, replyWords, shapedOf, replyMoved, replyEntered, replyRun, replyGiven, replyRead, replyWritten, numberOf}
+use Rattle.eval.specs.After.{afterMoved, afterEntered, afterRun, afterGiven}
 
 -- registers and answer as words, and the tables
 pub record Lent : Type 0 where

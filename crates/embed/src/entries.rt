@@ -2,14 +2,14 @@
 ghost use mathlib.Core.Path.{_≡_};
 ghost use Rattle.instruction.specs.Variables.{found};
 ghost use Rattle.embed.specs.Called.{lent, gave, freshCalled, startCalled, stepCalled, runCalled};
+use eval::after::after_entered;
+use eval::after::after_moved;
+use eval::after::after_run;
 use eval::entry::run;
 use eval::entry::step;
 use eval::start::start;
 use instruction::variables::Found;
 use memory::fresh;
-use replies::words::after_entered;
-use replies::words::after_moved;
-use replies::words::after_run;
 use replies::words::put_registers;
 use replies::words::put_reply;
 use replies::words::registers_in;

@@ -2,6 +2,7 @@
 ghost use mathlib.Core.Path.{_≡_};
 ghost use Rattle.memory.specs.Tables.{both};
 ghost use Rattle.embed.specs.Called.{lent, gave, filled, listed, allocateCalled, writeCalled, readCalled, imageCalled, listCalled};
+use eval::after::after_given;
 use eval::entry::host_read;
 use eval::host::host_allocate;
 use eval::host::host_list;
@@ -9,7 +10,6 @@ use eval::host::host_write;
 use image_writer::writer::write_image;
 use replies::words::ANSWER;
 use replies::words::REGISTERS;
-use replies::words::after_given;
 use replies::words::number_of;
 use replies::words::put_registers;
 use replies::words::put_reply;

@@ -2,3 +2,4 @@ pub mod Loaded
 pub mod Host
 pub mod Entry
 pub mod Start
+pub mod After

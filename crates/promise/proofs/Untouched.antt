@@ -41,12 +41,13 @@ use Rattle.step.specs.Step.{steppedOf}
 use Rattle.run.specs.Run.{resting, following, after, ranOf}
 use Rattle.eval.specs.Host.{hostAllocated, hostWritten, hostListed}
 use Rattle.eval.specs.Entry.{Entering, Reading, readOut, readAs, steppedAs, runLoaded, runEntered, stepLoaded, stepEntered, steppedFrom, staying, readLoaded, readAfter, readEntered}
+use Rattle.eval.specs.After.{afterEntered, afterGiven}
 use Rattle.eval.specs.Start.{startEntered}
 use Rattle.run.specs.declared.Ran.the-variants as ran
 use Rattle.eval.specs.declared.entry.Entered.the-variants as entered
 use Rattle.eval.specs.declared.entry.Readout.the-variants as readout
 use Rattle.agree.specs.Seen.{Runs, Kept}
-use Rattle.agree.specs.Turns.{ranReply, ranState, enteredReply, enteredRegisters, enteredState, allocatedReply, allocatedRegisters, allocatedState, writtenReply, writtenState, readReply, listedReply}
+use Rattle.agree.specs.Turns.{ranReply, ranState, enteredReply, enteredState, allocatedReply, allocatedState, writtenReply, writtenState, readReply, listedReply}
 use Rattle.agree.proofs.Access.{written-left}
 use Rattle.agree.proofs.Initialize.{allots}
 use Rattle.agree.proofs.Entries.{loaded-end}
@@ -65,7 +66,7 @@ module _ (t : State) (good : Good t) where
   -- ---- allocate and write
 
   by-given : (a : Given) (s f b p : List ℕ) → ((k : ℕ) → a ≡ given.Refused k → tables m s f b p ≡ t .memory) → (n : ℕ) → allocatedReply a ≡ refusal n
-      → state (tables (allocatedRegisters m a) s f b p) (t .variables) ≡ t
+      → state (tables (afterGiven a m) s f b p) (t .variables) ≡ t
   by-given (given.Made q r) s f b p left n e = absurd (let z : _≡_ {A = ℕ} 0 1 = cc in omega arith)
   by-given (given.Refused k) s f b p left n e = ap (λ (u : Tables). state u (t .variables)) (left k refl)
 
@@ -85,7 +86,7 @@ module _ (t : State) (good : Good t) where
   -- ---- step and run
 
   by-progress : (a : Stepped) (p : Progress) → Kept t p (λ r. following r a) → (n : ℕ) → enteredReply (steppedAs p) ≡ refusal n
-      → state (tables (enteredRegisters m (steppedAs p)) (a .store) (a .frames) (a .bounds) (a .pointers)) (a .variables) ≡ t
+      → state (tables (afterEntered (steppedAs p) m) (a .store) (a .frames) (a .bounds) (a .pointers)) (a .variables) ≡ t
   by-progress a (Next r) k n e = absurd (let z : _≡_ {A = ℕ} 0 1 = cc in omega arith)
   by-progress a (Ended r v) k n e = absurd (let z : _≡_ {A = ℕ} 0 1 = cc in omega arith)
   by-progress a (Refused j) k n e = k

@@ -93,26 +93,3 @@ replyWritten (written.Short number) = countedOf number 0
 abbrev pub numberOf : Outcome → ℕ
 numberOf outcome.Done = 0
 numberOf (outcome.Refused number) = number
-
--- ---- the registers afterwards: as before where the entry is refused
-
-abbrev pub afterMoved : Moved → Registers → Registers
-afterMoved (moved.Done n) m = n
-afterMoved (moved.Refused number) m = m
-
-abbrev pub afterEntered : Entered → Registers → Registers
-afterEntered (entered.Went n) m = n
-afterEntered (entered.Returned n v) m = n
-afterEntered (entered.Refused number) m = m
-afterEntered (entered.NotLoaded number place) m = m
-
-abbrev pub afterRun : Ran → Registers → Registers
-afterRun (ran.Returned n v count) m = n
-afterRun (ran.Paused n count) m = n
-afterRun (ran.Stopped n number count) m = n
-afterRun (ran.Refused number) m = m
-afterRun (ran.NotLoaded number place) m = m
-
-abbrev pub afterGiven : Given → Registers → Registers
-afterGiven (given.Made pointer n) m = n
-afterGiven (given.Refused number) m = m

@@ -1,7 +1,7 @@
 // Registers and answers as words.
 ghost use mathlib.Core.Path.{_≡_};
 ghost use lib.ListN.{getD};
-ghost use Rattle.replies.specs.Words.{shapedOf, registersIn, registersPut, replyPut, countedOf, afterMoved, afterEntered, afterRun, afterGiven, replyMoved, replyEntered, replyRun, replyGiven, replyRead, replyWritten, numberOf};
+ghost use Rattle.replies.specs.Words.{shapedOf, registersIn, registersPut, replyPut, countedOf, replyMoved, replyEntered, replyRun, replyGiven, replyRead, replyWritten, numberOf};
 use eval::entry::Entered;
 use eval::entry::Readout;
 use image_writer::writer::Outcome as Written;
@@ -96,34 +96,12 @@ fn counted(number: u64, count: u64) -> Reply
     }
 }
 
-// The registers after fresh memory was made; those before where it was refused.
-pub fn after_moved(r: Moved, m: Registers) -> Registers
-    ensures { λ n. ⌜ n ≡ afterMoved r m ⌝ }
-{
-    match r {
-        Moved::Done(n) => n,
-        Moved::Refused(_) => m,
-    }
-}
-
 pub fn reply_moved(r: Moved) -> Reply
     ensures { λ a. ⌜ a ≡ replyMoved r ⌝ }
 {
     match r {
         Moved::Done(_) => counted(0, 0),
         Moved::Refused(number) => counted(number, 0),
-    }
-}
-
-// After a start or a step.
-pub fn after_entered(r: Entered, m: Registers) -> Registers
-    ensures { λ n. ⌜ n ≡ afterEntered r m ⌝ }
-{
-    match r {
-        Entered::Went(n) => n,
-        Entered::Returned(n, _) => n,
-        Entered::Refused(_) => m,
-        Entered::NotLoaded(_, _) => m,
     }
 }
 
@@ -144,19 +122,6 @@ pub fn reply_entered(r: Entered) -> Reply
     }
 }
 
-// After a run.
-pub fn after_run(r: Ran, m: Registers) -> Registers
-    ensures { λ n. ⌜ n ≡ afterRun r m ⌝ }
-{
-    match r {
-        Ran::Returned(n, _, _) => n,
-        Ran::Paused(n, _) => n,
-        Ran::Stopped(n, _, _) => n,
-        Ran::Refused(_) => m,
-        Ran::NotLoaded(_, _) => m,
-    }
-}
-
 pub fn reply_run(r: Ran) -> Reply
     ensures { λ a. ⌜ a ≡ replyRun r ⌝ }
 {
@@ -172,16 +137,6 @@ pub fn reply_run(r: Ran) -> Reply
         Ran::Stopped(_, number, count) => counted(number, count),
         Ran::Refused(number) => counted(number, 0),
         Ran::NotLoaded(number, place) => counted(number, place as u64),
-    }
-}
-
-// After an allocation.
-pub fn after_given(r: Given, m: Registers) -> Registers
-    ensures { λ n. ⌜ n ≡ afterGiven r m ⌝ }
-{
-    match r {
-        Given::Made(_, n) => n,
-        Given::Refused(_) => m,
     }
 }
 

@@ -1,7 +1,7 @@
--- `words::after_run` meets its contract: case by case.
+-- `after::after_run` meets its contract: case by case.
 use borrow.Author.Needs.{needs}
-use Rattle.replies.proofs.words.after_run.Statement.{statement}
-use Rattle.replies.proofs.words.after_run.Tie as tie
+use Rattle.eval.proofs.after.after_run.Statement.{statement}
+use Rattle.eval.proofs.after.after_run.Tie as tie
 
 enum-known-r : tie.Need-enum-known-r
 enum-known-r c = search needs
