@@ -2,10 +2,15 @@
 ghost use mathlib.Core.Path.{_≡_};
 ghost use Prim.Native.Nat.{_<_, _≤_};
 ghost use lib.ListN.{length};
-ghost use Rattle.memory.specs.Tables.{tables, pointerAt, recordOf, columns, filledOf, roomyOf, listing, listedOf};
+ghost use Rattle.memory.specs.Tables.{tables, pointerAt, liveRecord, recordOf, columns, filledOf, roomyOf, listing, listedOf};
+ghost use Rattle.live_list.specs.Record.{inTables, recordIn};
+use memory::FRAMES_LENGTH;
 use memory::LOCAL;
 use memory::LiveRecord;
+use memory::MAX_DEPTH;
+use memory::MAX_POINTERS;
 use memory::Outcome;
+use memory::POINTERS_LENGTH;
 use memory::Place;
 use memory::PointerRecord;
 use memory::Registers;
@@ -14,6 +19,18 @@ use memory::stands;
 use value::refusal::NOT_SOUND;
 use value::refusal::SHORT_TABLE;
 
+// Not live, and the other fields are 0.
+fn no_record() -> LiveRecord
+    ensures { λ r. ⌜ r ≡ liveRecord 0 0 0 0 ⌝ }
+{
+    LiveRecord {
+        live: 0,
+        frame: 0,
+        allocation: 0,
+        offset: 0,
+    }
+}
+
 // One record of the live list, for pointer p: a constant is not live, and the other fields are 0.
 fn live_record(d: usize, p: usize, frames: &[u64], pointers: &[u64]) -> LiveRecord
     requires { ⌜ (d ≤ 64) × (p < 4096) × (length (now frames) ≡ 260) × (length (now pointers) ≡ 20480) ⌝ }
@@ -21,12 +38,7 @@ fn live_record(d: usize, p: usize, frames: &[u64], pointers: &[u64]) -> LiveReco
 {
     let at = p * 5;
     if pointers[at] != LOCAL {
-        return LiveRecord {
-            live: 0,
-            frame: 0,
-            allocation: 0,
-            offset: 0,
-        };
+        return no_record();
     }
     let q = PointerRecord {
         kind: LOCAL,
@@ -45,6 +57,32 @@ fn live_record(d: usize, p: usize, frames: &[u64], pointers: &[u64]) -> LiveReco
         allocation: q.allocation,
         offset: q.offset,
     }
+}
+
+// The tables have their lengths, and p is a pointer's number.
+fn in_tables(d: usize, p: usize, frames: usize, pointers: usize) -> bool
+    ensures { λ r. ⌜ r ≡ inTables d p frames pointers ⌝ }
+{
+    if frames != FRAMES_LENGTH {
+        return false;
+    }
+    if pointers != POINTERS_LENGTH {
+        return false;
+    }
+    if MAX_DEPTH < d {
+        return false;
+    }
+    p < MAX_POINTERS
+}
+
+// The record of any pointer in any tables: not live and 0 where they have none.
+pub fn record_at(d: usize, p: usize, frames: &[u64], pointers: &[u64]) -> LiveRecord
+    ensures { λ r. ⌜ r ≡ recordIn d (now (frames .entry)) (now (pointers .entry)) p ⌝ }
+{
+    if !in_tables(d, p, frames.len(), pointers.len()) {
+        return no_record();
+    }
+    live_record(d, p, frames, pointers)
 }
 
 // The first `n` records, one in each slice.

@@ -1,8 +1,7 @@
 -- "A lent table of records, one for each pointer number, rising: live or not, frame index, allocation, offset."
-use Prim.Native.Nat.{ℕ, zero, suc, _<_}
-use mathlib.Core.Path.{_≡_}
+use Prim.Native.Nat.{ℕ, zero, suc}
 use mathlib.Core.List.{List}
-use lib.ListN.{getD, set, length}
+use lib.ListN.{set, length}
 use lib.Dec.{leb, eqb}
 use Rattle.value.specs.Answer.{pick}
 use Rattle.value.specs.Refusal.{notSound, shortTable}
@@ -43,30 +42,15 @@ tabledOf t l =
     (tabled (outcome.Refused shortTable) l))
     (tabled (outcome.Refused notSound) l)
 
--- ---- the list in four arrays
+-- ---- the answer before the records
 
--- record k of the four arrays
-abbrev pub rowOf : Told → (k : ℕ) → PointerRecord
-rowOf t k = record {
-  live = eqb (getD (t .live) k 0) 1;
-  frame = getD (t .frame) k 0;
-  allocation = getD (t .allocation) k 0;
-  offset = getD (t .offset) k 0;
-}
+abbrev pub told : Outcome → (count : ℕ) → Told
+told r n = record { answer = r; count = n }
 
--- the list's answer, then the table's room
-abbrev pub judgedOf : (listed : Outcome) → (room pointers : ℕ) → Outcome
-judgedOf outcome.Done room pointers = pick (leb pointers room) outcome.Done (outcome.Refused shortTable)
-judgedOf (outcome.Refused n) room pointers = outcome.Refused n
+abbrev pub toldNone : (number : ℕ) → Told
+toldNone number = told (outcome.Refused number) 0
 
-abbrev pub turnsOf : (answer : Outcome) → (pointers : ℕ) → ℕ
-turnsOf outcome.Done pointers = pointers
-turnsOf (outcome.Refused n) pointers = 0
-
--- the records that go to the table are those of the live list
-pub record Tells (t : State) (room : ℕ) (r : Told) : Type 0 where
-  pub answer : (l : List PointerRecord) → length l ≡ room → r .answer ≡ tabledOf t l .answer
-  pub table : (l : List PointerRecord) → length l ≡ room → filled (r .count) (recordAt (t .memory)) l ≡ tabledOf t l .table
-  pub room-for : (k : ℕ) → k < r .count → k < room
-  pub in-arrays : (k : ℕ) → k < r .count → k < 4096
-  pub rows : (k : ℕ) → k < r .count → rowOf r k ≡ recordAt (t .memory) k
+-- the answer for a table with this room, and how many records go to it
+unfoldable pub toldOf : State → (room : ℕ) → Told
+toldOf t room =
+    pick (soundOf t) (pick (leb (t .memory .registers .pointers) room) (told outcome.Done (t .memory .registers .pointers)) (toldNone shortTable)) (toldNone notSound)

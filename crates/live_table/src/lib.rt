@@ -1,11 +1,12 @@
-// The live list as a lent table of records. `live_table` fills the table from the four lists that `host_list` tells.
+// The live list as a lent table of records, filled by a thin walk: each record is the one that `live_list` makes of the flat tables.
 ghost use mathlib.Core.Path.{_≡_};
-ghost use Prim.Native.Nat.{_<_};
 ghost use Rattle.memory.specs.Tables.{tables, state};
-ghost use Rattle.live_table.specs.Table.{rowOf, tabled, tabledOf, judgedOf, turnsOf, Tells};
-use eval::host::host_list;
+ghost use Rattle.live_list.specs.Record.{recordIn};
+ghost use Rattle.live_table.specs.Table.{shown, tabled, tabledOf, toldNone, toldOf};
 use memory::Outcome;
 use memory::Registers;
+use soundness::sound;
+use value::refusal::NOT_SOUND;
 use value::refusal::SHORT_TABLE;
 
 // Whether the pointer is live, its frame's index, its allocation and its offset.
@@ -16,43 +17,23 @@ pub struct PointerRecord {
     pub offset: u64,
 }
 
-// The live list in four arrays, with room for every pointer, and how many of its records go to the table.
+// The answer, and how many records go to the table.
 struct Told {
     answer: Outcome,
     count: usize,
-    live: [u64; 4096],
-    frame: [u64; 4096],
-    allocation: [u64; 4096],
-    offset: [u64; 4096],
 }
 
-// The answer for a table with this room: that of the list, then 41.
-fn judge(listed: Outcome, room: usize, pointers: usize) -> Outcome
-    ensures { λ r. ⌜ r ≡ judgedOf listed room pointers ⌝ }
+// A refusal writes no record.
+fn refuse(number: u64) -> Told
+    ensures { λ r. ⌜ r ≡ toldNone number ⌝ }
 {
-    match listed {
-        Outcome::Done => {
-            if room < pointers {
-                Outcome::Refused(SHORT_TABLE)
-            } else {
-                Outcome::Done
-            }
-        }
-        Outcome::Refused(n) => Outcome::Refused(n),
+    Told {
+        answer: Outcome::Refused(number),
+        count: 0,
     }
 }
 
-// How many records are written: none where it is refused.
-fn turns(answer: Outcome, pointers: usize) -> usize
-    ensures { λ r. ⌜ r ≡ turnsOf answer pointers ⌝ }
-{
-    match answer {
-        Outcome::Done => pointers,
-        Outcome::Refused(_) => 0,
-    }
-}
-
-// The live list, for a table with this room.
+// What is told of a table with this room: 10, then 41, then a record for each pointer.
 fn tell<'a>(
     m: Registers,
     store: &'a [u8],
@@ -62,33 +43,17 @@ fn tell<'a>(
     vars: &'a [u64],
     room: usize,
 ) -> Told
-    ensures { λ r. ⌜ Tells (state (tables m (now (store .entry)) (now (frames .entry)) (now (bounds .entry)) (now (pointers .entry))) (now (vars .entry))) room r ⌝ }
+    ensures { λ r. ⌜ r ≡ toldOf (state (tables m (now (store .entry)) (now (frames .entry)) (now (bounds .entry)) (now (pointers .entry))) (now (vars .entry))) room ⌝ }
 {
-    let mut live = [0u64; 4096];
-    let mut frame = [0u64; 4096];
-    let mut allocation = [0u64; 4096];
-    let mut offset = [0u64; 4096];
-    let listed = host_list(
-        m,
-        store,
-        frames,
-        bounds,
-        pointers,
-        vars,
-        &mut live,
-        &mut frame,
-        &mut allocation,
-        &mut offset,
-    );
-    let answer = judge(listed, room, m.pointers);
-    let count = turns(answer, m.pointers);
+    if !sound(m, store, frames, bounds, pointers, vars) {
+        return refuse(NOT_SOUND);
+    }
+    if room < m.pointers {
+        return refuse(SHORT_TABLE);
+    }
     Told {
-        answer,
-        count,
-        live,
-        frame,
-        allocation,
-        offset,
+        answer: Outcome::Done,
+        count: m.pointers,
     }
 }
 
@@ -106,15 +71,15 @@ fn answer_of(told: Told) -> Outcome
 }
 
 // Record k of the list.
-fn record_at(told: Told, k: usize) -> PointerRecord
-    requires { ⌜ k < 4096 ⌝ }
-    ensures { λ r. ⌜ r ≡ rowOf told k ⌝ }
+fn record_at<'a>(m: Registers, k: usize, frames: &'a [u64], pointers: &'a [u64]) -> PointerRecord
+    ensures { λ r. ⌜ r ≡ shown (recordIn (m .depth) (now (frames .entry)) (now (pointers .entry)) k) ⌝ }
 {
+    let r = live_list::record_at(m.depth, k, frames, pointers);
     PointerRecord {
-        live: told.live[k] == 1,
-        frame: told.frame[k],
-        allocation: told.allocation[k],
-        offset: told.offset[k],
+        live: r.live == 1,
+        frame: r.frame,
+        allocation: r.allocation,
+        offset: r.offset,
     }
 }
 
@@ -135,7 +100,7 @@ pub fn live_table<'a, 't>(
     let n = count_of(told);
     let mut k = 0;
     while k < n {
-        table[k] = record_at(told, k);
+        table[k] = record_at(m, k, frames, pointers);
         k += 1;
     }
     answer_of(told)

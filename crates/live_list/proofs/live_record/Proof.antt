@@ -17,11 +17,12 @@ mul-if1 c = search needs
 shared-slice-read-if1 : tie.Need-shared-slice-read-if1
 shared-slice-read-if1 c = search needs
 
+no-record-requires : tie.Need-no-record-requires
+no-record-requires c κs = search needs
+
 returns : tie.Need-returns
 unfolding recordOf pointerAt
-returns c =
-    simp
-    (ne-eqb _ _ (c .if1 .taken))
+returns c = rw (ne-eqb _ _ (c .before .if1 .taken)) (c .no-record .ensures)
 
 add-t8 : tie.Need-add-t8
 add-t8 c = search needs
@@ -85,6 +86,7 @@ live-record-spec =
     mul-at
     mul-if1
     shared-slice-read-if1
+    no-record-requires
     returns
     add-t8
     mul-t12

@@ -57,10 +57,12 @@ use Rattle.memory.proofs.Registers as R
 use Rattle.memory.proofs.Registers.Laws as R′
 use Rattle.memory.proofs.Outcome as O
 use Rattle.memory.proofs.Outcome.Laws as O′
-use Rattle.live_table.specs.Table.{Tabled, tabled, tabledOf, filled, recordAt, rowOf, Tells}
+use Rattle.live_list.specs.Record.{recordIn}
+use Rattle.live_table.specs.Table.{shown, Tabled, tabled, tabledOf, filled, recordAt, toldOf}
 use Rattle.live_table.specs.declared.PointerRecord.{PointerRecord}
 use Rattle.live_table.specs.declared.Told.{Told}
 use Rattle.live_table.proofs.Filled.{filled-length, filled-none, filled-more}
+use Rattle.live_table.proofs.Listed.{Tells, told-tells}
 use Rattle.live_table.proofs.PointerRecord as T
 use Rattle.live_table.proofs.PointerRecord.Laws as T′
 use Rattle.live_table.proofs.Told as D
@@ -214,8 +216,8 @@ module _ {M : Type 1} (𝓤 : URA M) (H : Heap 𝓤) (A : Atoms 𝓤) (W : Given
       owned ! R.the-row (Is R.the-row) (LL.makes R.the-type R′.the-plain 𝓤 H A) m _ m-is $ fjoin ! $
       nothing ! $ move ! (3 ∷ 0 ∷ []) $ join ! $ use2 W (raw (Tell 𝓤 H A mem run .pre to-tell)) asked $ frame ! $ done !
 
-  tell-said : (r : Told) → ent 𝓤 (ensured 𝓤 H A tell.ended (tell.clauses 𝓤 H A mem run) (κ₀, tt) tell-args tt r) (fact 𝓤 (Tells t (length ys) r))
-  tell-said r = exE 𝓤 _ (λ ws. snd∗ 𝓤 (sem 𝓤 H A (lasts tell.ended (κ₀, tt) tell-args ws)) (fact 𝓤 (Tells t (length ys) r)))
+  tell-said : (r : Told) → ent 𝓤 (ensured 𝓤 H A tell.ended (tell.clauses 𝓤 H A mem run) (κ₀, tt) tell-args tt r) (fact 𝓤 (r ≡ toldOf t (length ys)))
+  tell-said r = exE 𝓤 _ (λ ws. snd∗ 𝓤 (sem 𝓤 H A (lasts tell.ended (κ₀, tt) tell-args ws)) (fact 𝓤 (r ≡ toldOf t (length ys))))
 
   -- the list that was told, with its machine value
   module _ (r : Told) (u : Val) (r-is : Is D.the-row r (u ∷ [])) (tells : Tells t (length ys) r) where
@@ -244,15 +246,37 @@ module _ {M : Type 1} (𝓤 : URA M) (H : Heap 𝓤) (A : Atoms 𝓤) (W : Given
     answer-said : (z : Outcome) → ent 𝓤 (ensured 𝓤 H A answers.ended (answers.clauses 𝓤 H A mem run) tt (r, tt) tt z) (fact 𝓤 (z ≡ r .answer))
     answer-said z = exE 𝓤 _ (λ ws. snd∗ 𝓤 (sem 𝓤 H A (lasts answers.ended tt (r, tt) ws)) (fact 𝓤 (z ≡ r .answer)))
 
+    abbrev record-args : ℕ → Registers × (ℕ × (RefT (List ℕ) × (RefT (List ℕ) × Unit {0})))
+    record-args k = (m, (k, (fr, (ps, tt))))
+
+    abbrev record-vals : ℕ → List Val × (List Val × (List Val × (List Val × Unit {0})))
+    record-vals k = (R′.lowered m ∷ [], (vint w64 k ∷ [], (v-fr ∷ [], (v-ps ∷ [], tt))))
+
     abbrev to-record : ℕ → RecordAt 𝓤 H A mem run .Ghost
-    to-record k = ((tt, tt, tt, (r, (k, tt)), (u ∷ [], (vint w64 k ∷ [], tt))), tt)
+    to-record k = (((κ₀, tt), (q₀, tt), tt, record-args k, record-vals k), tt)
 
-    goes-record : (k : ℕ) → k < 2 ^ 64 → k < 4096 → ent 𝓤 (emp 𝓤) (RecordAt 𝓤 H A mem run .pre (to-record k))
-    goes-record k fits within =
-        qed W [] ∵ says ! within $ nothing ! $ frame ! $ nothing ! $ owned ! usize (Is usize) (uint-makes 𝓤 H A W w64) k _ (refl, fits) $ fjoin ! $ owned ! D.the-row (Is D.the-row) (LL.makes D.the-type D′.the-plain 𝓤 H A) r _ r-is $ fjoin ! $ done !
+    asked-record : (k : ℕ) → ent 𝓤 (onEntry 𝓤 H A records.signature (κ₀, tt) (q₀, tt) (record-args k) (record-vals k)) (RecordAt 𝓤 H A mem run .pre (to-record k))
+    asked-record k = qed W ((‵ (flft κ₀ q₀) ⊛ ‵ ftrue) ∷ ‵ (owns (R.the-row ∷ usize ∷ ShrSlice (named 0) κ₀ u64 ∷ ShrSlice (named 0) κ₀ u64 ∷ []) (record-args k) (record-vals k)) ∷ []) ∵ join ! $ frame ! $ done !
 
-    record-said : (k : ℕ) (p : PointerRecord) → ent 𝓤 (ensured 𝓤 H A records.ended (records.clauses 𝓤 H A mem run) tt (r, (k, tt)) tt p) (fact 𝓤 (p ≡ rowOf r k))
-    record-said k p = exE 𝓤 _ (λ ws. snd∗ 𝓤 (sem 𝓤 H A (lasts records.ended tt (r, (k, tt)) ws)) (fact 𝓤 (p ≡ rowOf r k)))
+    -- what the frames and the pointers own is had twice, and once is kept
+    goes-record : (k : ℕ) → k < 2 ^ 64 → ent 𝓤 (sep 𝓤 (sem 𝓤 H A Slices) (A .lft κ₀ q₀)) (sep 𝓤 (RecordAt 𝓤 H A mem run .pre (to-record k)) (sem 𝓤 H A Slices))
+    goes-record k fits =
+        qed W (‵ Slices ∷ ‵ (flft κ₀ q₀) ∷ []) ∵
+        fsplit ! $ move ! (1 ∷ []) $ fsplit ! $ use1 W (‵ Own-fr ⊛ ‵ Own-fr) (shr-slice-copy 𝓤 H A W (named 0) κ₀ u64 .twice fr (v-fr ∷ [])) $ split ! $
+        move ! (2 ∷ []) $ fsplit ! $ move ! (1 ∷ []) $ fsplit ! $ use1 W (‵ Own-ps ⊛ ‵ Own-ps) (shr-slice-copy 𝓤 H A W (named 0) κ₀ u64 .twice ps (v-ps ∷ [])) $ split ! $
+        -- [ps; ps; vs; bo; fr; fr; st; the token]: what is kept, then what the callee asks
+        move ! (0 ∷ 2 ∷ []) $ fjoin ! $ move ! (2 ∷ 0 ∷ []) $ fjoin ! $ move ! (2 ∷ 0 ∷ []) $ fjoin ! $ move ! (3 ∷ 0 ∷ []) $ fjoin ! $
+        -- [what is kept; ps; fr; the token]
+        nothing ! $ move ! (2 ∷ 0 ∷ []) $ fjoin ! $ move ! (2 ∷ 0 ∷ []) $ fjoin ! $
+        owned ! usize (Is usize) (uint-makes 𝓤 H A W w64) k _ (refl, fits) $ fjoin ! $ owned ! R.the-row (Is R.the-row) (LL.makes R.the-type R′.the-plain 𝓤 H A) m _ m-is $ fjoin ! $
+        nothing ! $ move ! (3 ∷ 0 ∷ []) $ join ! $ use2 W (raw (RecordAt 𝓤 H A mem run .pre (to-record k))) (asked-record k) $ frame ! $ done !
+
+    -- record k as `record_at` tells it
+    abbrev record-of : ℕ → PointerRecord
+    record-of k = shown (recordIn (m .depth) (now fr) (now ps) k)
+
+    record-said : (k : ℕ) (p : PointerRecord) → ent 𝓤 (ensured 𝓤 H A records.ended (records.clauses 𝓤 H A mem run) (κ₀, tt) (record-args k) tt p) (fact 𝓤 (p ≡ record-of k))
+    record-said k p = exE 𝓤 _ (λ ws. snd∗ 𝓤 (sem 𝓤 H A (lasts records.ended (κ₀, tt) (record-args k) ws)) (fact 𝓤 (p ≡ record-of k)))
 
     -- from what is had at exit to the `post` of `walkOf`
     exits : (z : Outcome) (w : Val) → z ≡ r .answer
@@ -309,14 +333,16 @@ module _ {M : Type 1} (𝓤 : URA M) (H : Heap 𝓤) (A : Atoms 𝓤) (W : Given
         more i less test =
             assigns ! (bin ! (load ! (from ! (stop !)) (look ! 14 refl)) (load ! (from ! (stop !)) (look ! 16 refl)) tt) (from ! (stop !)) (init ! 12 refl (tt, tt)) $
             rewrite ! 12 (λ (y : Bool). ‵ (fat fullShare tyBool l₁₂ 0 (vbool y))) test refl $ stays ! (load ! (from ! (stop !)) (look ! 12 refl)) $
-            use0 W (raw (RecordAt 𝓤 H A mem run .pre (to-record (i .0)))) (goes-record (i .0) k-fits (tells .in-arrays (i .0) less)) $
-            calls-at ! fm (RecordAt 𝓤 H A mem run) known-records (to-record (i .0)) (and-then ! (load ! (from ! (stop !)) (look ! 19 refl)) (and-then ! (load ! (from ! (stop !)) (look ! 15 refl)) (no-more !))) (λ y.
-            use1 W (later (some (λ (p : PointerRecord). (‵ ftrue ⊛ ‵ (T.the-row .own p (y ∷ []))) ⊛ raw (ensured 𝓤 H A records.ended (records.clauses 𝓤 H A mem run) tt (r, (i .0, tt)) tt p)))) (id⊢ 𝓤 _) $ await ! tt $ pick ! (λ p.
-            split ! $ move ! (1 ∷ []) $ use1 W (raw (fact 𝓤 (p ≡ rowOf r (i .0)))) (record-said (i .0) p) $ heard ! (p ≡ rowOf r (i .0)) (λ e. split ! $ move ! (1 ∷ []) $
-            -- [the record; true; the row; the open borrow; obs; auth; what the slices own; their token; _15; …]
+            move ! (4 ∷ 5 ∷ []) $ use2 W (raw (RecordAt 𝓤 H A mem run .pre (to-record (i .0))) ⊛ ‵ Slices) (goes-record (i .0) k-fits) $ split ! $
+            -- [what `record_at` asks; what the slices own; the row; the open borrow; obs; auth; _15; …]
+            calls-at ! fm (RecordAt 𝓤 H A mem run) known-records (to-record (i .0)) (and-then ! (load ! (from ! (stop !)) (look ! 34 refl)) (and-then ! (load ! (from ! (stop !)) (look ! 14 refl)) (and-then ! (load ! (from ! (stop !)) (look ! 30 refl)) (and-then ! (load ! (from ! (stop !)) (look ! 26 refl)) (no-more !))))) (λ y.
+            use1 W (later (some (λ (p : PointerRecord). ((‵ (flft κ₀ q₀) ⊛ ‵ ftrue) ⊛ ‵ (T.the-row .own p (y ∷ []))) ⊛ raw (ensured 𝓤 H A records.ended (records.clauses 𝓤 H A mem run) (κ₀, tt) (record-args (i .0)) tt p)))) (id⊢ 𝓤 _) $ await ! tt $ pick ! (λ p.
+            split ! $ move ! (1 ∷ []) $ use1 W (raw (fact 𝓤 (p ≡ record-of (i .0)))) (record-said (i .0) p) $ heard ! (p ≡ record-of (i .0)) (λ e. split ! $ move ! (1 ∷ []) $
+            -- [the record; the slices' token and true; what the slices own; the row; the open borrow; obs; auth; _15; …]
             peeks ! T.the-row (Is T.the-row) (shows 𝓤 H A T.the-row) p (y ∷ []) (λ is.
-            land ! (from ! (stop !)) (init ! 12 refl (LL.lawful T.the-type T′.the-laws 𝓤 H A W .typed p _ is .0)) $
-            rewrite ! 12 (λ (z : Val). ‵ (fat fullShare T′.mir l₁₃ 0 z)) (ap only (LL.tells T.the-type T′.the-laws p (y ∷ []) is) ∙ ap T′.lowered (e ∙ tells .rows (i .0) less)) refl $ drop ! $ drop ! $
+            land ! (from ! (stop !)) (init ! 11 refl (LL.lawful T.the-type T′.the-laws 𝓤 H A W .typed p _ is .0)) $
+            rewrite ! 11 (λ (z : Val). ‵ (fat fullShare T′.mir l₁₃ 0 z)) (ap only (LL.tells T.the-type T′.the-laws p (y ∷ []) is) ∙ ap T′.lowered (e ∙ tells .rows (i .0) less)) refl $ drop ! $
+            split ! $ move ! (1 ∷ []) $ drop ! $ move ! (2 ∷ 3 ∷ 4 ∷ 5 ∷ 1 ∷ 0 ∷ []) $
             -- [the row; the open borrow; obs; auth; what the slices own; their token; _15; …]: the place of table[k], and the store
             assigns ! (bin ! (load ! (from ! (stop !)) (look ! 14 refl)) (lit ! tt) (record { fits = place-fits })) (from ! (stop !)) (init ! 8 refl (tt, record { fits = place-fits })) $
             assigns ! (bin ! (load ! (from ! (fld ! refl (stop !))) (look-in ! 22 (sub ! 0 refl (whole !)))) (load ! (from ! (stop !)) (look ! 8 refl)) tt) (from ! (stop !)) (init ! 6 refl (tt, tt)) $
@@ -423,11 +449,11 @@ module _ {M : Type 1} (𝓤 : URA M) (H : Heap 𝓤) (A : Atoms 𝓤) (W : Given
         -- [what `tell` asks; what the slices own; the table's token and true; the table; true; _15; …]
         calls-at ! (fmOf 𝓤 H (W .laws) 𝓣) (Tell 𝓤 H A mem run) known-tell to-tell (and-then ! (load ! (from ! (stop !)) (look ! 33 refl)) (and-then ! (load ! (from ! (stop !)) (look ! 31 refl)) (and-then ! (load ! (from ! (stop !)) (look ! 29 refl)) (and-then ! (load ! (from ! (stop !)) (look ! 27 refl)) (and-then ! (load ! (from ! (stop !)) (look ! 25 refl)) (and-then ! (load ! (from ! (stop !)) (look ! 23 refl)) (and-then ! (load ! (from ! (stop !)) (look ! 19 refl)) (no-more !)))))))) (λ u.
         use1 W (later (some (λ (r : Told). ((‵ (flft κ₀ q₀) ⊛ ‵ ftrue) ⊛ ‵ (D.the-row .own r (u ∷ []))) ⊛ raw (ensured 𝓤 H A tell.ended (tell.clauses 𝓤 H A mem run) (κ₀, tt) tell-args tt r)))) (id⊢ 𝓤 _) $ await ! tt $ pick ! (λ r.
-        split ! $ move ! (1 ∷ []) $ use1 W (raw (fact 𝓤 (Tells t (length ys) r))) (tell-said r) $ heard ! (Tells t (length ys) r) (λ tells. split ! $ move ! (1 ∷ []) $
+        split ! $ move ! (1 ∷ []) $ use1 W (raw (fact 𝓤 (r ≡ toldOf t (length ys)))) (tell-said r) $ heard ! (r ≡ toldOf t (length ys)) (λ told. split ! $ move ! (1 ∷ []) $
         -- [the list; the slices' token and true; what the slices own; the table's token and true; the table; true; _15; …]
         peeks ! D.the-row (Is D.the-row) (shows 𝓤 H A D.the-row) r (u ∷ []) (λ r-is.
         land ! (from ! (stop !)) (init ! 18 refl (LL.lawful D.the-type D′.the-laws 𝓤 H A W .typed r _ r-is .0)) $ drop ! $ split ! $
-        fills r u r-is tells 𝓣 known-tell known-counts known-records known-answers l₀ l₁ l₂ l₃ l₄ l₅ l₆ l₇ l₈ l₉ l₁₀ l₁₁ l₁₂ l₁₃ l₁₄ l₁₅))))
+        fills r u r-is (subst (Tells t (length ys)) (sym told) (told-tells t (length ys))) 𝓣 known-tell known-counts known-records known-answers l₀ l₁ l₂ l₃ l₄ l₅ l₆ l₇ l₈ l₉ l₁₀ l₁₁ l₁₂ l₁₃ l₁₄ l₁₅))))
 
   module _ (𝓣 : Tables 𝓤 H) (known-tell : Triple 𝓤 (𝓣 .C #live_table·tell) (Tell 𝓤 H A mem run)) (known-counts : Triple 𝓤 (𝓣 .C #live_table·count-of) (Count 𝓤 H A mem run)) (known-records : Triple 𝓤 (𝓣 .C #live_table·record-at) (RecordAt 𝓤 H A mem run)) (known-answers : Triple 𝓤 (𝓣 .C #live_table·answer-of) (Answer 𝓤 H A mem run)) where
     walk : ent 𝓤 (onEntry 𝓤 H A self.signature (κ₀, (κ₁, tt)) (q₀, (q₁, tt)) a vals) (WpFn 𝓤 H (𝓣 .C) (𝓣 .Λ) code.function (R′.lowered m ∷ v-st ∷ v-fr ∷ v-bo ∷ v-ps ∷ v-vs ∷ s ∷ []) Post)

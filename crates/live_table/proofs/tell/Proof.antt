@@ -1,43 +1,30 @@
--- `tell` meets its contract: the four arrays are what `host_list` makes of them.
-use mathlib.Core.Path.{refl}
-use Rattle.live_table.proofs.Listed.{heard-tells}
+-- `tell` meets its contract: by its two tests.
+use Rattle.live_table.specs.Table.{toldOf}
+use borrow.Author.Tests.{not-true, not-false, le-leb, lt-leb}
 use borrow.Author.Needs.{needs}
 use Rattle.live_table.proofs.tell.Statement.{statement}
 use Rattle.live_table.proofs.tell.Tie as tie
 
-slice-aggregate-host-list : tie.Need-slice-aggregate-host-list
-slice-aggregate-host-list c = search needs
+sound-requires : tie.Need-sound-requires
+sound-requires c κs = search needs
 
-slice-aggregate-host-list-2 : tie.Need-slice-aggregate-host-list-2
-slice-aggregate-host-list-2 c = search needs
-
-slice-aggregate-host-list-3 : tie.Need-slice-aggregate-host-list-3
-slice-aggregate-host-list-3 c = search needs
-
-slice-aggregate-host-list-4 : tie.Need-slice-aggregate-host-list-4
-slice-aggregate-host-list-4 c = search needs
-
-host-list-requires : tie.Need-host-list-requires
-host-list-requires c κs = search needs
-
-judge-requires : tie.Need-judge-requires
-judge-requires c κs = search needs
-
-turns-requires : tie.Need-turns-requires
-turns-requires c κs = search needs
+refuse-requires : tie.Need-refuse-requires
+refuse-requires c κs = search needs
 
 returns : tie.Need-returns
-returns c = heard-tells _ _ _ _ _ _ _ _ (c .before .before .before .before .before .before .host-list .ensures) refl refl refl refl (c .before .judge .ensures) (c .turns .ensures)
+unfolding toldOf
+returns c = simp (c .refuse .ensures, ← c .before .before .sound .ensures, not-true (c .before .before .sound .result) (c .before .if1 .taken))
+
+refuse-requires-2 : tie.Need-refuse-requires-2
+refuse-requires-2 c κs = search needs
+
+returns-2 : tie.Need-returns-2
+unfolding toldOf
+returns-2 c = simp (c .refuse2 .ensures, ← c .before .before .before .before .sound .ensures, not-false (c .before .before .before .before .sound .result) (c .before .before .before .if1 .left), lt-leb _ _ (c .before .if2 .taken))
+
+returns-3 : tie.Need-returns-3
+unfolding toldOf
+returns-3 c = simp (← c .before .before .before .sound .ensures, not-false (c .before .before .before .sound .result) (c .before .before .if1 .left), le-leb _ _ (c .if2 .left))
 
 pub tell-spec : {M : Type 1} → statement M
-tell-spec =
-    tie.close
-    (tie.spec
-    slice-aggregate-host-list
-    slice-aggregate-host-list-2
-    slice-aggregate-host-list-3
-    slice-aggregate-host-list-4
-    host-list-requires
-    judge-requires
-    turns-requires
-    returns)
+tell-spec = tie.close (tie.spec sound-requires refuse-requires returns refuse-requires-2 returns-2 returns-3)
