@@ -14,7 +14,7 @@ use Rattle.memory.specs.Tables.{State, Columns, columns, Listing, listing}
 use Rattle.eval.specs.Host.{hostListed}
 use Rattle.console.specs.Told.{line}
 use Rattle.console.specs.Listed.{recordAt, columnsLine, listedLine, listingLine}
-use Rattle.console.proofs.Telling.{take-least}
+use Rattle.console.proofs.Telling.{part-told}
 
 pub record-told : (l f a o : List ℕ) (p : ℕ) {x y z u : ℕ} (t : Text) {r : Text} → x ≡ getD l p 0 → y ≡ getD f p 0 → z ≡ getD a p 0 → u ≡ getD o p 0
     → r ≡ puts (liveRecord x y z u) t → r ≡ puts (recordAt l f a o p) t
@@ -38,5 +38,4 @@ listing-told n before l f a o e h = h ∙ ap (λ (y : Listing). line (listingLin
 pub live-told : (column : List ℕ) (room n : ℕ) (t : State) (before : List ℕ) {r : Text} → n ≡ min room (length column)
     → r ≡ line (listingLine (t .memory .registers .pointers) (hostListed t (take n column) (take n column) (take n column) (take n column))) before
     → r ≡ line (listingLine (t .memory .registers .pointers) (hostListed t (take room column) (take room column) (take room column) (take room column))) before
-live-told column room n t before e h =
-    h ∙ ap (λ (l : List ℕ). line (listingLine (t .memory .registers .pointers) (hostListed t l l l l)) before) (take-least room n column e)
+live-told column room n t before = part-told (λ l. listingLine (t .memory .registers .pointers) (hostListed t l l l l)) room n column before

@@ -9,7 +9,7 @@ use lib.ListN.{length, take, length-take}
 use lib.Seq.{take-all}
 use borrow.Author.Tests.{eq-eqb, ne-eqb}
 use Rattle.words.specs.Text.{Text}
-use Rattle.answers.specs.Lines.{Pieces, returnedLine, returnedNoneLine, valueLine, noValueLine, bytesLine}
+use Rattle.answers.specs.Lines.{Pieces, returnedLine, returnedNoneLine, valueLine, noValueLine}
 use Rattle.instruction.specs.declared.variables.Found.{Found}
 use Rattle.console.specs.Bounds.{Counts}
 use Rattle.console.specs.Told.{line, endLine, lastLine}
@@ -47,5 +47,6 @@ take-least n r l e =
       | no h ↦ let m = min-eq-right {n = length l} {m = n} (omega arith) in take-all r l (omega arith) ∙ sym (take-all n l (omega arith))
     ]
 
-pub bytes-told : (n r : ℕ) (bytes out : List ℕ) {t : Text} → r ≡ min n (length bytes) → t ≡ line (bytesLine (take r bytes)) out → t ≡ line (bytesLine (take n bytes)) out
-bytes-told n r bytes out e h = h ∙ ap (λ (l : List ℕ). line (bytesLine l) out) (take-least n r bytes e)
+-- a line made from so many of a list's elements
+pub part-told : (tell : List ℕ → Pieces) (n r : ℕ) (l out : List ℕ) {t : Text} → r ≡ min n (length l) → t ≡ line (tell (take r l)) out → t ≡ line (tell (take n l)) out
+part-told tell n r l out e h = h ∙ ap (λ x. line (tell x) out) (take-least n r l e)

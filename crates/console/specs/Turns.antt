@@ -1,12 +1,11 @@
 -- What each command of the console does: the machine, the image and the bytes afterwards, and the line that it is answered by.
 use Prim.Native.Nat.{ℕ, _+_, _-_, _%_, _^_, min}
 use mathlib.Core.Bool.{Bool, _&&_, _||_}
-use mathlib.Core.List.{List, _++_}
+use mathlib.Core.List.{List}
 use lib.ListN.{length, getD, take, drop, replicate}
 use lib.Seq.{sets}
 use lib.Dec.{ltb, leb, eqb}
 use Rattle.value.specs.Answer.{pick}
-use Rattle.words.specs.Text.{Text, text}
 use Rattle.words.specs.Words.{words}
 use Rattle.words.specs.declared.Written.{Written}
 use Rattle.answers.specs.Lines.{Pieces, cannotReadLine, imageLine, okLine}
@@ -28,6 +27,7 @@ use Rattle.eval.specs.Host.{hostAllocated, hostWritten}
 use Rattle.eval.specs.After.{afterMoved, afterEntered, afterRun, afterGiven}
 use Rattle.console.specs.Told.{line, ranLine, startLine, stepLine, freshLine, givenLine, outcomeLine, readLine, rewrittenLine}
 use Rattle.console.specs.Listed.{liveLineOf}
+use Rattle.console.specs.declared.Told.{Told}
 use Rattle.console.specs.declared.Turn.{Turn}
 
 -- ---- what a command leaves
@@ -124,48 +124,44 @@ changedOf a bs t =
 
 -- ---- the commands that look at the state and leave it as it is
 
--- the line, and the bytes that it was made in
-pub record Seen : Type 0 where
-  pub line : Pieces
-  pub bytes : List ℕ
-
-abbrev pub seen : Pieces → List ℕ → Seen
-seen ps bs = record { line = ps; bytes = bs }
+-- bytes to read into, with so much room
+abbrev pub bytesFor : (room : ℕ) → List ℕ
+bytesFor room = take room (replicate 32768 0)
 
 -- "`read P SIZE` (at most 32,768) → `bytes HEX`"
-abbrev pub fromReading : (rest : List ℕ) → Reading → Seen
-fromReading rest r = seen (readLine (r .answer) (r .bytes)) (r .bytes ++ rest)
+abbrev pub readingLine : Reading → Pieces
+readingLine r = readLine (r .answer) (r .bytes)
 
-unfoldable pub readSeen : Asked → (image bytes : List ℕ) → State → Seen
-readSeen a s bs t = fromReading (drop (a .second) bs) (readEntered s (a .first) (take (a .second) bs) t)
+unfoldable pub readLineOf : Asked → (image : List ℕ) → State → Pieces
+readLineOf a s t = readingLine (readEntered s (a .first) (bytesFor (a .second)) t)
 
 -- "`rewrite ROOM` (at most 32,768) → the image written again by the image writer: `bytes HEX`"
-unfoldable pub rewriteSeen : Asked → (image bytes : List ℕ) → Seen
-rewriteSeen a s bs =
-    let room = take (a .first) bs in
-    let after = buffer (loaded s) room ++ drop (a .first) bs in
-    seen (rewrittenLine (outcome (loaded s) room) after) after
+abbrev pub rewrittenIn : (image room : List ℕ) → Pieces
+rewrittenIn s room = rewrittenLine (outcome (loaded s) room) (buffer (loaded s) room)
 
--- `live ROOM`, and `dump`
-unfoldable pub lookedOf : Asked → (image bytes : List ℕ) → State → Seen
-lookedOf a s bs t =
-    pick (eqb (a .command) 4) (readSeen a s bs t)
-    (pick (eqb (a .command) 8) (seen (liveLineOf (a .first) t) bs)
-    (pick (eqb (a .command) 9) (rewriteSeen a s bs)
-    (seen (dumpLine (registersOf t) (t .memory .store) (t .memory .frames) (t .memory .bounds) (t .memory .pointers) (t .variables)) bs)))
+unfoldable pub rewriteLineOf : Asked → (image : List ℕ) → Pieces
+rewriteLineOf a s = rewrittenIn s (bytesFor (a .first))
 
--- where its text ends, with the buffer of the text and the bytes
-pub record Shown : Type 0 where
-  pub text : Text
-  pub bytes : List ℕ
+-- "`dump` → `state ..`"
+abbrev pub dumpLineOf : State → Pieces
+dumpLineOf t = dumpLine (registersOf t) (t .memory .store) (t .memory .frames) (t .memory .bounds) (t .memory .pointers) (t .variables)
 
-abbrev pub shown : Text → List ℕ → Shown
-shown t bs = record { text = t; bytes = bs }
-
-abbrev pub showing : (out : List ℕ) → Seen → Shown
-showing o s = shown (line (s .line) o) (s .bytes)
+unfoldable pub lookedOf : Asked → (image : List ℕ) → State → Pieces
+lookedOf a s t =
+    pick (eqb (a .command) 4) (readLineOf a s t)
+    (pick (eqb (a .command) 8) (liveLineOf (a .first) t)
+    (pick (eqb (a .command) 9) (rewriteLineOf a s) (dumpLineOf t)))
 
 -- ---- one command
+
+unfoldable pub runs : ℕ → Bool
+runs c = leb 5 c && leb c 7
+
+unfoldable pub looks : ℕ → Bool
+looks c = eqb c 4 || (leb 8 c && leb c 10)
+
+unfoldable pub machineOf : Asked → (tags bits image bytes : List ℕ) → State → Done
+machineOf a ts bs s bytes t = pick (runs (a .command)) (ranOf s a ts bs t) (pick (looks (a .command)) (still t (lookedOf a s t)) (changedOf a bytes t))
 
 -- the machine and the line, the image's length and bytes, and the bytes that HEX was read into
 pub record Performed : Type 0 where
@@ -184,22 +180,11 @@ imageCount n image bs = min (min n (length image)) (length bs)
 abbrev pub imageTaken : ℕ → (image bytes : List ℕ) → State → Performed
 imageTaken n image bs t = performed (still t (imageLine n)) n (sets image 0 (take n bs)) bs
 
-abbrev pub looking : Seen → ℕ → (image : List ℕ) → State → Performed
-looking l n image t = performed (still t (l .line)) n image (l .bytes)
-
-unfoldable pub runs : ℕ → Bool
-runs c = leb 5 c && leb c 7
-
-unfoldable pub looks : ℕ → Bool
-looks c = eqb c 4 || (leb 8 c && leb c 10)
-
 -- the image is the first `n` bytes of its buffer
 unfoldable pub performedOf : (n : ℕ) → Asked → (tags bits image bytes : List ℕ) → State → Performed
 performedOf n a ts bs image bytes t =
     pick (eqb (a .command) 0) (imageTaken (imageCount (a .count) image bytes) image bytes t)
-    (pick (runs (a .command)) (performed (ranOf (take n image) a ts bs t) n image bytes)
-    (pick (looks (a .command)) (looking (lookedOf a (take n image) bytes t) n image t)
-    (performed (changedOf a bytes t) n image bytes)))
+    (performed (machineOf a ts bs (take n image) bytes t) n image bytes)
 
 -- ---- one line
 
@@ -240,9 +225,9 @@ answeredOf n l image bytes t =
 
 -- ---- in the buffers
 
--- the registers, the image's length and where the text ends; the buffer of the text; the tables
+-- the registers and where the text ends; the buffer of the text; the tables
 pub record Left : Type 0 where
-  pub turn : Turn
+  pub told : Told
   pub out : List ℕ
   pub store : List ℕ
   pub frames : List ℕ
@@ -250,26 +235,38 @@ pub record Left : Type 0 where
   pub pointers : List ℕ
   pub variables : List ℕ
 
-abbrev pub left : Turn → (out store frames bounds pointers variables : List ℕ) → Left
-left r o s f b p v = record { turn = r; out = o; store = s; frames = f; bounds = b; pointers = p; variables = v }
+abbrev pub left : Told → (out store frames bounds pointers variables : List ℕ) → Left
+left r o s f b p v = record { told = r; out = o; store = s; frames = f; bounds = b; pointers = p; variables = v }
 
-abbrev pub turn : Registers → ℕ → Written → Turn
-turn m n w = record { m = m; image = n; text = w }
+abbrev pub told : Registers → Written → Told
+told m w = record { m = m; text = w }
 
 -- the line is written from the start of the buffer on
-abbrev pub told : (n : ℕ) → (out : List ℕ) → Done → Left
-told n o d =
-    left (turn (registersOf (d .machine)) n (line (d .line) o .place)) (line (d .line) o .bytes)
+abbrev pub leaving : (out : List ℕ) → Done → Left
+leaving o d =
+    left (told (registersOf (d .machine)) (line (d .line) o .place)) (line (d .line) o .bytes)
     (d .machine .memory .store) (d .machine .memory .frames) (d .machine .memory .bounds) (d .machine .memory .pointers) (d .machine .variables)
+
+abbrev pub turn : Told → (image : ℕ) → Turn
+turn r n = record { m = r .m; image = n; text = r .text }
 
 -- and with the image and the bytes
 pub record Kept : Type 0 where
-  pub left : Left
+  pub turn : Turn
+  pub out : List ℕ
+  pub store : List ℕ
+  pub frames : List ℕ
+  pub bounds : List ℕ
+  pub pointers : List ℕ
+  pub variables : List ℕ
   pub image : List ℕ
   pub bytes : List ℕ
 
-abbrev pub kept : Left → (image bytes : List ℕ) → Kept
-kept l image bs = record { left = l; image = image; bytes = bs }
+abbrev pub kept : Turn → (out store frames bounds pointers variables image bytes : List ℕ) → Kept
+kept r o s f b p v image bs = record { turn = r; out = o; store = s; frames = f; bounds = b; pointers = p; variables = v; image = image; bytes = bs }
+
+abbrev pub keptFrom : Left → ℕ → (image bytes : List ℕ) → Kept
+keptFrom l n image bs = kept (turn (l .told) n) (l .out) (l .store) (l .frames) (l .bounds) (l .pointers) (l .variables) image bs
 
 abbrev pub keeping : (out : List ℕ) → Performed → Kept
-keeping o p = kept (told (p .length) o (p .done)) (p .image) (p .bytes)
+keeping o p = keptFrom (leaving o (p .done)) (p .length) (p .image) (p .bytes)

@@ -1,4 +1,5 @@
 // `lir run`: the answer to a start line, on fresh memory.
+use crate::LONGEST;
 use crate::answer::write_ran;
 use crate::begin::begin;
 use crate::begin::budget_of;
@@ -19,9 +20,6 @@ ghost use Rattle.console.specs.Runs.{runFrom, begunRun, freshRun, Answer
 ghost use Rattle.words.specs.Text.{text};
 ghost use Rattle.console.specs.Turns.{unreadLine};
 ghost use Rattle.console.specs.Told.{line};
-
-// "A line may be 262,144 bytes long"
-const LONGEST: usize = 262144;
 
 // The run that follows a start, or the start's refusal.
 fn run_from(

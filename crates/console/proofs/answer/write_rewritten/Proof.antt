@@ -1,8 +1,9 @@
 -- `answer::write_rewritten` meets its contract: case by case.
 use denote.Ref.{now}
 use Rattle.image_writer.specs.declared.writer.Outcome.{Outcome}
-use Rattle.console.proofs.Telling.{in-case, bytes-told}
+use Rattle.console.proofs.Telling.{in-case, part-told}
 use Rattle.console.specs.Told.{rewrittenLine}
+use Rattle.answers.specs.Lines.{bytesLine}
 use borrow.Author.Needs.{needs}
 use Rattle.console.proofs.answer.write_rewritten.Statement.{statement}
 use Rattle.console.proofs.answer.write_rewritten.Tie as tie
@@ -35,7 +36,7 @@ same-length : tie.Need-same-length
 same-length c = search needs
 
 returns : tie.Need-returns
-returns c = in-case (λ (x : Outcome). rewrittenLine x (now (c .before .before .before .before .before .before .before .before .before .before .before .args .bytes))) _ (c .before .before .before .before .before .before .before .o .given .1) (bytes-told _ _ _ _ (c .before .before .before .before .before .within .ensures .0) (c .before .before .write-read-bytes .ensures))
+returns c = in-case (λ (x : Outcome). rewrittenLine x (now (c .before .before .before .before .before .before .before .before .before .before .before .args .bytes))) _ (c .before .before .before .before .before .before .before .o .given .1) (part-told bytesLine _ _ _ _ (c .before .before .before .before .before .within .ensures .0) (c .before .before .write-read-bytes .ensures))
 
 same-length-2 : tie.Need-same-length-2
 same-length-2 c = search needs

@@ -1,5 +1,4 @@
 -- `session::answer` meets its contract: too long, or read.
-use mathlib.Core.Path.{_∙_}
 use Rattle.console.proofs.Turning.{is-long, is-line}
 use borrow.Author.Needs.{needs}
 use Rattle.console.proofs.session.answer.Statement.{statement}
@@ -8,14 +7,17 @@ use Rattle.console.proofs.session.answer.Tie as tie
 write-unread-requires : tie.Need-write-unread-requires
 write-unread-requires c κs = search needs
 
-done-requires : tie.Need-done-requires
-done-requires c κs = search needs
+tell-requires : tie.Need-tell-requires
+tell-requires c κs = search needs
+
+turn-requires : tie.Need-turn-requires
+turn-requires c κs = search needs
 
 same-length : tie.Need-same-length
 same-length c = search needs
 
 returns : tie.Need-returns
-returns c = is-long _ _ _ _ _ _ (c .before .before .before .before .before .if1 .taken) (c .done .ensures) (c .before .before .before .write-unread .ensures)
+returns c = is-long _ _ _ _ _ _ (c .before .before .before .before .before .before .if1 .taken) (c .before .before .before .before .write-unread .ensures) (c .before .tell .ensures) (c .turn .ensures)
 
 slice-aggregate-read-line : tie.Need-slice-aggregate-read-line
 slice-aggregate-read-line c = search needs
@@ -39,7 +41,7 @@ same-length-2 : tie.Need-same-length-2
 same-length-2 c = search needs
 
 same-length-3 : tie.Need-same-length-3
-same-length-3 c = c .before .before .before .before .before .before .before .before .before .before .before .before .before .before .before .before .answer-read .kept .1 .1 .1 .1 .1 .1 .0 ∙ c .before .before .before .before .before .before .before .before .before .before .before .before .before .before .before .before .before .before .before .before .before .before .before .before .before .before .before .before .before .before .before .read-line .kept .1 .1 .0
+same-length-3 c = search needs
 
 same-length-4 : tie.Need-same-length-4
 same-length-4 c = search needs
@@ -60,14 +62,15 @@ same-length-9 : tie.Need-same-length-9
 same-length-9 c = search needs
 
 returns-2 : tie.Need-returns-2
-returns-2 c = is-line _ _ _ _ _ _ (c .before .before .before .before .before .before .before .before .before .before .before .before .before .before .before .before .before .before .before .before .before .before .before .before .before .before .before .before .before .before .before .before .before .before .before .if1 .left) (c .before .before .before .before .before .before .before .before .before .before .before .before .before .before .before .before .before .before .before .before .before .before .before .before .before .before .before .before .before .before .before .read-line .ensures) (c .before .before .before .before .before .before .before .before .before .before .before .before .before .before .before .before .answer-read .ensures)
+returns-2 c = is-line _ _ _ _ _ _ (c .before .before .before .before .before .before .before .before .before .before .before .before .before .before .before .before .before .before .before .before .before .before .before .before .before .before .before .before .before .before .before .before .before .if1 .left) (c .before .before .before .before .before .before .before .before .before .before .before .before .before .before .before .before .before .before .before .before .before .before .before .before .before .before .before .before .before .read-line .ensures) (c .before .before .before .before .before .before .before .before .before .before .before .before .before .before .answer-read .ensures)
 
 pub answer-spec : {M : Type 1} → statement M
 answer-spec =
     tie.close
     (tie.spec
     write-unread-requires
-    done-requires
+    tell-requires
+    turn-requires
     same-length
     returns
     slice-aggregate-read-line

@@ -7,14 +7,17 @@ use Rattle.console.proofs.session.answer_read.Tie as tie
 write-unread-requires : tie.Need-write-unread-requires
 write-unread-requires c κs = search needs
 
-done-requires : tie.Need-done-requires
-done-requires c κs = search needs
+tell-requires : tie.Need-tell-requires
+tell-requires c κs = search needs
+
+turn-requires : tie.Need-turn-requires
+turn-requires c κs = search needs
 
 same-length : tie.Need-same-length
 same-length c = search needs
 
 returns : tie.Need-returns
-returns c = is-unread _ _ _ _ _ _ _ _ (c .before .before .before .before .before .if1 .taken) (c .done .ensures) (c .before .before .before .write-unread .ensures)
+returns c = is-unread _ _ _ _ _ _ _ _ (c .before .before .before .before .before .before .if1 .taken) (c .before .before .before .before .write-unread .ensures) (c .before .tell .ensures) (c .turn .ensures)
 
 perform-requires : tie.Need-perform-requires
 perform-requires c κs = search needs
@@ -40,18 +43,16 @@ same-length-7 c = search needs
 same-length-8 : tie.Need-same-length-8
 same-length-8 c = search needs
 
-same-length-9 : tie.Need-same-length-9
-same-length-9 c = search needs
-
 returns-2 : tie.Need-returns-2
-returns-2 c = is-read _ _ _ _ _ _ _ _ (c .before .before .before .before .before .before .before .before .before .before .before .before .before .before .before .before .before .before .before .before .before .before .before .before .before .if1 .left) (c .before .before .before .before .before .before .before .before .before .before .before .before .before .before .before .before .perform .ensures)
+returns-2 c = is-read _ _ _ _ _ _ _ _ (c .before .before .before .before .before .before .before .before .before .before .before .before .before .before .before .before .before .before .before .before .before .before .if1 .left) (c .before .before .before .before .before .before .before .before .before .before .before .before .before .before .perform .ensures)
 
 pub answer-read-spec : {M : Type 1} → statement M
 answer-read-spec =
     tie.close
     (tie.spec
     write-unread-requires
-    done-requires
+    tell-requires
+    turn-requires
     same-length
     returns
     perform-requires
@@ -62,5 +63,4 @@ answer-read-spec =
     same-length-6
     same-length-7
     same-length-8
-    same-length-9
     returns-2)
