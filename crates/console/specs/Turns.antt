@@ -9,6 +9,7 @@ use Rattle.value.specs.Answer.{pick}
 use Rattle.words.specs.Words.{words}
 use Rattle.words.specs.declared.Written.{Written}
 use Rattle.answers.specs.Lines.{Pieces, cannotReadLine, imageLine, okLine}
+use Rattle.commands.specs.Command as Command
 use Rattle.commands.specs.Commands.{nameRead, rowAsked, rowBytes, rowTags, rowBits}
 use Rattle.commands.specs.declared.Asked.{Asked}
 use Rattle.by_hand.specs.Changes.{Poked, pokedOf}
@@ -86,7 +87,7 @@ unfoldable pub runDone : (image : List ℕ) → Asked → State → Done
 runDone s a t = fromRunning t (runEntered s (budgetOf (a .first)) t)
 
 unfoldable pub ranOf : (image : List ℕ) → Asked → (tags bits : List ℕ) → State → Done
-ranOf s a ts bs t = pick (eqb (a .command) 5) (startDone s a ts bs t) (pick (eqb (a .command) 6) (stepDone s t) (runDone s a t))
+ranOf s a ts bs t = pick (eqb (a .command) Command.start) (startDone s a ts bs t) (pick (eqb (a .command) Command.step) (stepDone s t) (runDone s a t))
 
 -- ---- the commands that change the memory by the host's hand
 
@@ -120,7 +121,7 @@ pokeDone a t = fromPoked t (pokedOf (registersOf t) a (t .memory .frames) (t .me
 
 unfoldable pub changedOf : Asked → (bytes : List ℕ) → State → Done
 changedOf a bs t =
-    pick (eqb (a .command) 1) (freshDone t) (pick (eqb (a .command) 2) (allocateDone a t) (pick (eqb (a .command) 3) (writeDone a bs t) (pokeDone a t)))
+    pick (eqb (a .command) Command.fresh) (freshDone t) (pick (eqb (a .command) Command.allocate) (allocateDone a t) (pick (eqb (a .command) Command.write) (writeDone a bs t) (pokeDone a t)))
 
 -- ---- the commands that look at the state and leave it as it is
 
@@ -148,17 +149,17 @@ dumpLineOf t = dumpLine (registersOf t) (t .memory .store) (t .memory .frames) (
 
 unfoldable pub lookedOf : Asked → (image : List ℕ) → State → Pieces
 lookedOf a s t =
-    pick (eqb (a .command) 4) (readLineOf a s t)
-    (pick (eqb (a .command) 8) (liveLineOf (a .first) t)
-    (pick (eqb (a .command) 9) (rewriteLineOf a s) (dumpLineOf t)))
+    pick (eqb (a .command) Command.read) (readLineOf a s t)
+    (pick (eqb (a .command) Command.live) (liveLineOf (a .first) t)
+    (pick (eqb (a .command) Command.rewrite) (rewriteLineOf a s) (dumpLineOf t)))
 
 -- ---- one command
 
 unfoldable pub runs : ℕ → Bool
-runs c = leb 5 c && leb c 7
+runs c = leb Command.start c && leb c Command.run
 
 unfoldable pub looks : ℕ → Bool
-looks c = eqb c 4 || (leb 8 c && leb c 10)
+looks c = eqb c Command.read || (leb Command.live c && leb c Command.dump)
 
 unfoldable pub machineOf : Asked → (tags bits image bytes : List ℕ) → State → Done
 machineOf a ts bs s bytes t = pick (runs (a .command)) (ranOf s a ts bs t) (pick (looks (a .command)) (still t (lookedOf a s t)) (changedOf a bytes t))
@@ -183,7 +184,7 @@ imageTaken n image bs t = performed (still t (imageLine n)) n (sets image 0 (tak
 -- the image is the first `n` bytes of its buffer
 unfoldable pub performedOf : (n : ℕ) → Asked → (tags bits image bytes : List ℕ) → State → Performed
 performedOf n a ts bs image bytes t =
-    pick (eqb (a .command) 0) (imageTaken (imageCount (a .count) image bytes) image bytes t)
+    pick (eqb (a .command) Command.image) (imageTaken (imageCount (a .count) image bytes) image bytes t)
     (performed (machineOf a ts bs (take n image) bytes t) n image bytes)
 
 -- ---- one line
