@@ -7,6 +7,7 @@ use lib.ListN.{length, getD}
 use borrow.Author.Tests.{eq-eqb, ne-eqb, le-leb, lt-leb}
 use Rattle.value.specs.Refusal.{noInstruction}
 use Rattle.memory.specs.Tables.{State, Both, both}
+use Rattle.memory.specs.declared.Registers.{Registers}
 use Rattle.instruction.specs.Decode.{fieldAt}
 use Rattle.instruction.specs.Code.{Stepped, stepped, jumpedOf, switchedOf, assignedOf, combinedOf, changedOf}
 use Rattle.instruction.specs.Storage.{Pointed, pointed, addressedOf, offsettedOf, returnedOf, writeOf, readingOf, initializedOf, copyingOf}
@@ -110,9 +111,9 @@ module _ (i : Items) (t : State) where
     unfolding dispatched
     copies r store e h = rw e (ap (withStore t) h)
 
-    pub drops : n ≡ 21 → unchanged t (Next (onward (t .memory .registers))) ≡ dispatched i t n at
+    pub drops : (m : Registers) → n ≡ 21 → m ≡ onward (t .memory .registers) → unchanged t (Next m) ≡ dispatched i t n at
     unfolding dispatched
-    drops e = rw e refl
+    drops m e h = rw e (ap (λ (w : Registers). unchanged t (Next w)) h)
 
     -- there are no others
     pub unknown : 22 ≤ n → unchanged t (Refused noInstruction) ≡ dispatched i t n at

@@ -1,7 +1,7 @@
 // One step: the instruction at the next place, decided by its opcode.
 ghost use mathlib.Core.Path.{_≡_};
 ghost use Rattle.memory.specs.Tables.{tables, state};
-ghost use Rattle.instruction.specs.Code.{stepped};
+ghost use Rattle.instruction.specs.Code.{stepped, withNext};
 ghost use Rattle.step.specs.Items.{items};
 ghost use Rattle.step.specs.Step.{steppedOf};
 use calls::call::call;
@@ -21,6 +21,15 @@ use instruction::storage::read;
 use instruction::storage::write;
 use memory::Registers;
 use value::refusal::NO_INSTRUCTION;
+
+// The registers with this next place. Each instruction makes its own, so that none is kept in memory for the others.
+fn with_next(m: Registers, place: usize) -> Registers
+    ensures { λ r. ⌜ r ≡ withNext m place ⌝ }
+{
+    let mut n = m;
+    n.next = place;
+    n
+}
 
 pub fn step_at(
     m: Registers,
@@ -44,15 +53,14 @@ pub fn step_at(
     let field = read_field(image, places[k]);
     let opcode = field.value;
     let at = field.next;
-    let mut n = m;
-    n.next = k + 1;
+    let next = k + 1;
     match opcode {
-        0 => jump(n, image, at, labels),
-        1 => switch(n, image, at, labels, vars),
-        2 => assign(n, image, at, vars),
-        3 => address(n, image, at, pointers, vars),
+        0 => jump(with_next(m, next), image, at, labels),
+        1 => switch(with_next(m, next), image, at, labels, vars),
+        2 => assign(with_next(m, next), image, at, vars),
+        3 => address(with_next(m, next), image, at, pointers, vars),
         4 => call(
-            n,
+            with_next(m, next),
             image,
             at,
             labels,
@@ -64,14 +72,52 @@ pub fn step_at(
             vars,
         ),
         5 => return_value(m, image, at, frames, vars),
-        6..=13 => combine(n, opcode, image, at, vars),
-        14..=15 => change(n, opcode, image, at, vars),
-        16 => offset(n, image, at, pointers, vars),
-        17 => initialize(n, image, at, store, frames, bounds, pointers, vars),
-        18 => write(n, image, at, store, frames, bounds, pointers, vars),
-        19 => read(n, image, at, extents, store, frames, bounds, pointers, vars),
-        20 => copy(n, image, at, extents, store, frames, bounds, pointers, vars),
-        21 => Progress::Next(n),
+        6..=13 => combine(with_next(m, next), opcode, image, at, vars),
+        14..=15 => change(with_next(m, next), opcode, image, at, vars),
+        16 => offset(with_next(m, next), image, at, pointers, vars),
+        17 => initialize(
+            with_next(m, next),
+            image,
+            at,
+            store,
+            frames,
+            bounds,
+            pointers,
+            vars,
+        ),
+        18 => write(
+            with_next(m, next),
+            image,
+            at,
+            store,
+            frames,
+            bounds,
+            pointers,
+            vars,
+        ),
+        19 => read(
+            with_next(m, next),
+            image,
+            at,
+            extents,
+            store,
+            frames,
+            bounds,
+            pointers,
+            vars,
+        ),
+        20 => copy(
+            with_next(m, next),
+            image,
+            at,
+            extents,
+            store,
+            frames,
+            bounds,
+            pointers,
+            vars,
+        ),
+        21 => Progress::Next(with_next(m, next)),
         _ => Progress::Refused(NO_INSTRUCTION),
     }
 }
