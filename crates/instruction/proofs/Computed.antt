@@ -1,18 +1,21 @@
 -- From a tag and bits to a value and back: what the code's operations answer is what the definitions do, found again as tag and bits.
-use Prim.Native.Nat.{ℕ}
+use Prim.Native.Nat.{ℕ, _<_}
 use native.Mathlib.Omega.{arith}
 use mathlib.Core.Bool.{Bool, true, false}
 use mathlib.Core.Path.{_≡_, refl, sym, ap, _∙_, subst}
 use mathlib.Core.Option.{Option, none, some}
 use lib.Dec.{T, eqb}
-use borrow.Author.Tests.{eq-eqb, ne-eqb}
+use borrow.Author.Tests.{eq-eqb, ne-eqb, lt-ltb}
 use Rattle.value.specs.Refusal.{notSound, noInstruction}
 use Rattle.value.specs.Answer.{Answer, ok, refused, need, pick, _>>=_}
-use Rattle.value.specs.Value.{Value, value, Kind, tag, IntCmp, Eq, Ne, ULt, ULe, UGt, UGe, SLt, SLe, SGt, SGe, FloatCmp, FEq, FNe, FLt, FLe, FGt, FGe, compareInts, compareFloats}
-use Rattle.value.specs.Tags.{kindAt, holds, intCmpAt, floatCmpAt}
+use Rattle.value.specs.Value.{Value, value, Kind, tag, IntCmp, Eq, Ne, ULt, ULe, UGt, UGe, SLt, SLe, SGt, SGe, FloatCmp, FEq, FNe, FLt, FLe, FGt, FGe, compareInts, compareFloats, divideFloats, size}
+use Rattle.value.specs.Floats.{double}
+use Rattle.value.specs.Tags.{kindAt, named, holds, intCmpAt, floatCmpAt}
 use Rattle.value.specs.Ir.{valueOf, irOf, made, computed}
 use Rattle.value.specs.Compare.{intCmpOf, irIntCmp, intComparison, floatCmpOf, irFloatCmp, floatComparison}
 use Rattle.value.specs.declared.IrValue.{IrValue}
+use Rattle.value.specs.declared.IrValue.the-variants.{F64}
+use Rattle.value.specs.declared.Double.{Double}
 use Rattle.value.specs.declared.Made.the-variants as M
 use Rattle.value.specs.declared.IntCmp as I
 use Rattle.value.specs.declared.FloatCmp as F
@@ -172,6 +175,23 @@ module _ (opcode how : ℕ) where
   pub first-unsound : (x y : Found) → (x .tag ≡ 0 → ⊥) → made (kindAt (x .tag)) (x .bits) ≡ M.Nothing → found 0 notSound ≡ foundOf (binaryOf opcode how x y)
   unfolding binaryOf _>>=_
   first-unsound x y n e = ap (λ (a : Answer Value). foundOf (a >>= λ v. withSecond opcode how v y)) (sym (unsound-first x n e))
+
+-- an F64 of its bits
+double-made : (x : Found) → x .tag ≡ 11 → x .bits < 18446744073709551616 → made (kindAt (x .tag)) (x .bits) ≡ M.Value (F64 (double (x .bits)))
+unfolding made kindAt named tag holds irOf size
+double-made x e h = rw (e, lt-ltb (x .bits) 18446744073709551616 h)
+
+-- FDiv of two F64, by what the code's own division answers
+pub quotients : (opcode how : ℕ) (x y : Found) (a b : Double) (r : Found) → opcode ≡ 13 → x .tag ≡ 11 → y .tag ≡ 11 → x .bits < 18446744073709551616 → y .bits < 18446744073709551616
+    → a ≡ double (x .bits) → b ≡ double (y .bits) → r ≡ foundAs (computed (divideFloats (valueOf (F64 a)) (valueOf (F64 b)))) → r ≡ foundOf (binaryOf opcode how x y)
+unfolding operated
+quotients opcode how x y a b r e d f h k i j g =
+    let some : x .tag ≡ 0 → ⊥ = λ z. omega arith in
+    let other : y .tag ≡ 0 → ⊥ = λ z. omega arith in
+    rw e
+    (first-value 13 how x y (F64 (double (x .bits))) r some (double-made x d h)
+    (second-value 13 how (valueOf (F64 (double (x .bits)))) y (F64 (double (y .bits))) r other (double-made y f k)
+    (g ∙ ap (λ (z : Double). foundAs (computed (divideFloats (valueOf (F64 z)) (valueOf (F64 b))))) i ∙ ap (λ (z : Double). foundAs (computed (divideFloats (valueOf (F64 (double (x .bits)))) (valueOf (F64 z))))) j)))
 
 -- ---- one operand
 

@@ -3,17 +3,18 @@ use Prim.Native.Nat.{ℕ, zero, suc, _+_, _-_, _<_, _≤_}
 use native.Mathlib.Nat.{sub-zero}
 use native.Mathlib.Omega.{arith}
 use mathlib.Core.Path.{_≡_, refl, sym, ap, _∙_, subst}
-use mathlib.Core.List.{List, [], _∷_, _++_}
+use mathlib.Core.Bool.{Bool, true, false}
+use mathlib.Core.List.{List, [], _∷_, _++_, append-nil}
 use mathlib.Core.Option.{Option, none, some}
 use lib.Dec.{T, ltb, lt→ltb}
 use mir.Facts.{yes-and}
 use lib.ListN.{length, getD, take, drop, replicate, length-replicate, length-append}
 use lib.Seq.{take-at, length-take-le, getD-drop}
-use borrow.Author.Tests.{eq-eqb, ne-eqb, le-leb, lt-ltb, le-ltb}
+use borrow.Author.Tests.{eq-eqb, ne-eqb, le-leb, lt-leb, lt-ltb, le-ltb, ltb-true, ltb-false}
 use Rattle.value.specs.Refusal.{notSound, noInstruction, bytesExceedSize}
-use Rattle.value.specs.Answer.{Answer, ok, refused}
-use Rattle.value.specs.Value.{Value, IrType, Boolean, U8, U16, U32, U64, I8, I16, I32, I64, F32, F64, Pointer, kindOf, tag, size, bytesOf, fromBytes}
-use Rattle.value.specs.Tags.{kindAt, typeAt, holds}
+use Rattle.value.specs.Answer.{Answer, ok, refused, need}
+use Rattle.value.specs.Value.{Value, IrType, Boolean, U8, U16, U32, U64, I8, I16, I32, I64, F32, F64, Pointer, value, kindOf, tag, size, bytesOf, fromBytes, leBytes, leNumber}
+use Rattle.value.specs.Tags.{kindAt, typeAt, named, holds}
 use Rattle.value.specs.Ir.{valueOf, typeOf, irType, made, tagged, written, answered, loaded}
 use Rattle.value.specs.declared.IrValue.{IrValue}
 use Rattle.value.specs.declared.IrType as T
@@ -36,9 +37,10 @@ use Rattle.memory.specs.declared.Outcome.the-variants as outcome
 use Rattle.memory.proofs.Laws.{read-fits, constant-fits}
 use Rattle.memory.proofs.Tab.{part-length}
 use Rattle.instruction.specs.Decode.{fieldAt, operandAt}
-use Rattle.instruction.specs.Compute.{foundOf}
+use Rattle.instruction.specs.Compute.{answerOf, foundOf}
 use Rattle.instruction.specs.Variables.{found, evaluated}
 use Rattle.instruction.specs.Code.{stepped, finishedOf}
+use Rattle.instruction.specs.Short.{Word, unsigned, signed, float, pointer}
 use Rattle.instruction.specs.Storage.{asPointerOf, pointedOf, progressOf, storedOf, storedBy, writeOf, loadedAs, valueIn, readAs, readBy, readingOf, givenBy, madeOf, initializedOf, copyingOf}
 use Rattle.instruction.specs.declared.field.Field.{Field}
 use Rattle.instruction.specs.declared.field.Operand.{Operand}
@@ -75,6 +77,18 @@ module _ (v : Value) (n : ℕ) (after : List ℕ) (e : n ≡ size (v .kind)) (h 
       ap (λ (i : ℕ). take i after) (sub-zero n ∙ e) ∙ ap (take (size (v .kind))) front
       ∙ take-at (bytesOf v) (drop (length (bytesOf v)) zeros) (size (v .kind)) (bytes-length v)
 
+  -- and nothing else, where they are eight
+  pub bytes-alone : size (v .kind) ≡ 8 → after ≡ bytesOf v
+  bytes-alone w = front ∙ ap (λ (k : ℕ). bytesOf v ++ drop k zeros) (bytes-length v ∙ w) ∙ append-nil (bytesOf v)
+
+-- any eight bytes are a value of such a kind
+pub stored-word : (t : Tables) (p : ℕ) {tag : ℕ} (w : Word tag) (b : ℕ) → b < 18446744073709551616 → writtenOf t p (leBytes 8 b) ≡ storedOf t p (found tag b)
+unfolding storedOf answerOf kindAt named tag holds need bytesOf size
+stored-word t p unsigned b h = rw (lt-ltb b 18446744073709551616 h)
+stored-word t p signed b h = rw (lt-ltb b 18446744073709551616 h)
+stored-word t p float b h = rw (lt-ltb b 18446744073709551616 h)
+stored-word t p pointer b h = rw (lt-ltb b 18446744073709551616 h)
+
 module _ (t : Tables) (p : ℕ) (v : Found) where
   pub not-stored : v .tag ≡ 0 → both (outcome.Refused (v .bits)) (t .store) ≡ storedOf t p v
   unfolding storedOf
@@ -104,21 +118,6 @@ module _ (t : Tables) (s vars : List ℕ) (at : ℕ) (to : Operand) (e : to ≡ 
 
 -- ---- a value's bytes, read
 
--- what is read does not depend on what the buffer held
-same-taken : (ty : IrType) (a b raw : List ℕ) → length a ≡ length b → (x : Place)
-    → valueIn ty (takenAt x b raw .answer) (takenAt x b raw .table) ≡ valueIn ty (takenAt x a raw .answer) (takenAt x a raw .table)
-same-taken ty a b raw e (place.At at) = ap (λ (n : ℕ). fromBytes ty (take n (drop at raw))) (sym e)
-same-taken ty a b raw e (place.Refused n) = refl
-
-same-got : (ty : IrType) (store a b raw extents : List ℕ) → length a ≡ length b → (x : Source)
-    → valueIn ty (getAt x store b raw extents .answer) (getAt x store b raw extents .table) ≡ valueIn ty (getAt x store a raw extents .answer) (getAt x store a raw extents .table)
-unfolding constantOf
-same-got ty store a b raw extents e (source.Local at) = ap (λ (n : ℕ). fromBytes ty (take n (drop at store))) (sym e)
-same-got ty store a b raw extents e (source.Constant k) =
-    ap (λ (n : ℕ). valueIn ty (takenAt (constantAccessOf k n raw extents) b raw .answer) (takenAt (constantAccessOf k n raw extents) b raw .table)) (sym e)
-    ∙ same-taken ty a b raw e (constantAccessOf k (length a) raw extents)
-same-got ty store a b raw extents e (source.Refused n) = refl
-
 -- each element is a byte
 abbrev pub Small : List ℕ → Type 0
 Small l = (i : ℕ) → getD l i 0 < 256
@@ -140,67 +139,97 @@ small-part l at n h = small-take n (drop at l) (λ i. rw getD-drop (h (at + i)))
 part-bytes : (l : List ℕ) (at n : ℕ) → at + n ≤ length l → Small l → Bytes n (take n (drop at l))
 part-bytes l at n h s = (part-length l at n h, are-bytes (take n (drop at l)) (small-part l at n s))
 
-done-refused : {n : ℕ} {a b : List ℕ} → both outcome.Done a ≡ both (outcome.Refused n) b → ⊥
-done-refused e =
-    let same = ap (λ (r : Both Outcome). r .answer) e in
-    let z : _≡_ {A = ℕ} 0 1 = cc in
-    omega arith
-
 -- and back to tag and bits
 loaded-back : (a : Answer Value) → Keeps Good a → loadedAs (answered a) ≡ foundOf a
 unfolding answered
 loaded-back (ok v) (kept g) = ap (λ (w : Value). found (tag (w .kind)) (w .bits)) (bits-back (v .kind) (v .bits) (is-true (holds (v .kind) (v .bits)) g))
 loaded-back (refused n) k = refl
 
-module _ (t : Tables) (p : ℕ) (raw extents buffer : List ℕ) (stored : Small (t .store)) (held : Small raw) where
-  taken-bytes : (k : ℕ) (x : Place) → constantAccessOf k (length buffer) raw extents ≡ x → (bs : List ℕ) → both outcome.Done bs ≡ takenAt x buffer raw → Bytes (length buffer) bs
-  taken-bytes k (place.At at) e bs h =
-      let same : bs ≡ take (length buffer) (drop at raw) = ap (λ (r : Both Outcome). r .table) h in
-      subst (λ (l : List ℕ). Bytes (length buffer) l) (sym same) (part-bytes raw at (length buffer) (constant-fits k (length buffer) raw extents at e) held)
-  taken-bytes k (place.Refused n) e bs h = absurd (done-refused h)
+-- a type's own number of bytes, at the front of others
+loaded-front : (ty : IrType) (bs : List ℕ) → size (kindOf ty) ≤ length bs → Small bs → loadedAs (loaded ty bs) ≡ foundOf (fromBytes ty (take (size (kindOf ty)) bs))
+unfolding loaded
+loaded-front ty bs h small =
+    let n = size (kindOf ty) in
+    rw (le-leb n (length bs) h) (loaded-back (fromBytes ty (take n bs)) (read-good ty (take n bs) (length-take-le n bs h, are-bytes (take n bs) (small-take n bs small))))
 
-  got-bytes : (x : Source) → readAccessOf t p (length buffer) ≡ x → (bs : List ℕ) → both outcome.Done bs ≡ getAt x (t .store) buffer raw extents → Bytes (length buffer) bs
-  unfolding constantOf
-  got-bytes (source.Local at) e bs h =
-      let same : bs ≡ take (length buffer) (drop at (t .store)) = ap (λ (r : Both Outcome). r .table) h in
-      subst (λ (l : List ℕ). Bytes (length buffer) l) (sym same) (part-bytes (t .store) at (length buffer) (read-fits t p (length buffer) at e) stored)
-  got-bytes (source.Constant k) e bs h = taken-bytes k (constantAccessOf k (length buffer) raw extents) refl bs h
-  got-bytes (source.Refused n) e bs h = absurd (done-refused h)
+-- a type of eight bytes takes any
+word-bytes : (ty : IrType) → size (kindOf ty) ≡ 8 → (bs : List ℕ) → fromBytes ty bs ≡ ok (value (kindOf ty) (leNumber bs))
+unfolding fromBytes kindOf size tag need
+word-bytes Boolean e bs = absurd (omega arith)
+word-bytes U8 e bs = absurd (omega arith)
+word-bytes U16 e bs = absurd (omega arith)
+word-bytes U32 e bs = absurd (omega arith)
+word-bytes U64 e bs = refl
+word-bytes I8 e bs = absurd (omega arith)
+word-bytes I16 e bs = absurd (omega arith)
+word-bytes I32 e bs = absurd (omega arith)
+word-bytes I64 e bs = refl
+word-bytes F32 e bs = absurd (omega arith)
+word-bytes F64 e bs = refl
+word-bytes Pointer e bs = refl
 
-  read-bytes : (bs : List ℕ) → both outcome.Done bs ≡ readOf t p buffer raw extents → Bytes (length buffer) bs
-  unfolding readOf
-  read-bytes bs h = got-bytes (readAccessOf t p (length buffer)) refl bs h
+word-front : (ty : IrType) → size (kindOf ty) ≡ 8 → (bs : List ℕ) → 8 ≤ length bs → Small bs → loadedAs (loaded ty bs) ≡ found (tag (kindOf ty)) (leNumber (take 8 bs))
+word-front ty e bs h small =
+    loaded-front ty bs (rw e h) small
+    ∙ ap foundOf (ap (λ (n : ℕ). fromBytes ty (take n bs)) e ∙ word-bytes ty e (take 8 bs))
 
-module _ (t : Tables) (p : ℕ) (ty : IrType) (raw extents buffer : List ℕ) (l : length buffer ≡ size (kindOf ty)) where
-  as-read : (r : Outcome) (bs : List ℕ) → both r bs ≡ readOf t p buffer raw extents → valueIn ty r bs ≡ readAs t p ty raw extents
+too-few : (bs : List ℕ) → length bs < 8 → loadedAs (loaded U64 bs) .tag ≡ 0
+unfolding loaded kindOf size
+too-few bs h = rw (lt-leb 8 (length bs) h)
+
+-- the bits of a U64, with a type's own tag
+pub word-loaded : (ty : IrType) → size (kindOf ty) ≡ 8 → (bs : List ℕ) → Small bs → (w : Found) → w ≡ loadedAs (loaded U64 bs) → (w .tag ≡ 0 → ⊥) → (g : ℕ) → g ≡ tag (kindOf ty)
+    → found g (w .bits) ≡ loadedAs (loaded ty bs)
+unfolding kindOf size
+word-loaded ty e bs small w h n g d = go (ltb (length bs) 8) refl
+  where
+    go : (b : Bool) → ltb (length bs) 8 ≡ b → found g (w .bits) ≡ loadedAs (loaded ty bs)
+    go true l = absurd (n (ap (λ (r : Found). r .tag) h ∙ too-few bs (ltb-true (length bs) 8 l)))
+    go false l =
+        let m : 8 ≤ length bs = ltb-false (length bs) 8 l in
+        ap (λ (r : Found). found g (r .bits)) (h ∙ word-front U64 refl bs m small)
+        ∙ ap (λ (k : ℕ). found k (leNumber (take 8 bs))) d ∙ sym (word-front ty e bs m small)
+
+module _ (t : Tables) (p : ℕ) (ty : IrType) (raw extents : List ℕ) (n : ℕ) (l : n ≡ size (kindOf ty)) where
+  abbrev fresh : List ℕ
+  fresh = replicate (size (kindOf ty)) 0
+
+  as-long : length fresh ≡ n
+  as-long = length-replicate (size (kindOf ty)) 0 ∙ sym l
+
+  as-got : (x : Source) → readAccessOf t p n ≡ x → valueIn ty (getAt x (t .store) fresh raw extents .answer) (getAt x (t .store) fresh raw extents .table) ≡ readAs t p ty raw extents
   unfolding readAs readOf
-  as-read r bs h =
-      let n = size (kindOf ty) in
-      let z : length {A = ℕ} (replicate n 0) ≡ n = length-replicate n 0 in
-      ap (λ (x : Both Outcome). valueIn ty (x .answer) (x .table)) h
-      ∙ same-got ty (t .store) (replicate n 0) buffer raw extents (z ∙ sym l) (readAccessOf t p (length buffer))
-      ∙ ap (λ (k : ℕ). valueIn ty (getAt (readAccessOf t p k) (t .store) (replicate n 0) raw extents .answer) (getAt (readAccessOf t p k) (t .store) (replicate n 0) raw extents .table)) (l ∙ sym z)
+  as-got x e =
+      ap (λ (y : Source). valueIn ty (getAt y (t .store) fresh raw extents .answer) (getAt y (t .store) fresh raw extents .table))
+      (sym e ∙ ap (readAccessOf t p) (sym as-long))
 
-  pub not-read : (r : Outcome) (bs : List ℕ) → both r bs ≡ readOf t p buffer raw extents → (n : ℕ) → r ≡ outcome.Refused n → found 0 n ≡ foundOf (readAs t p ty raw extents)
-  not-read r bs h n d = ap foundOf (sym (ap (λ (o : Outcome). valueIn ty o bs) d) ∙ as-read r bs h)
+  part-loaded : (s : List ℕ) (at : ℕ) → at + n ≤ length s → Small s → loadedAs (loaded ty (take (at + n - at) (drop at s))) ≡ foundOf (fromBytes ty (take (length fresh) (drop at s)))
+  part-loaded s at h small =
+      let w : at + n - at ≡ n = omega arith in
+      let bs = take n (drop at s) in
+      let k : length bs ≡ n = part-length s at n h in
+      let whole : take (size (kindOf ty)) bs ≡ bs = ap (take (size (kindOf ty))) (sym (append-nil bs)) ∙ take-at bs [] (size (kindOf ty)) (k ∙ l) in
+      ap (λ (i : ℕ). loadedAs (loaded ty (take i (drop at s)))) w ∙ loaded-front ty bs (omega arith) (small-part s at n small)
+      ∙ ap (λ (r : List ℕ). foundOf (fromBytes ty r)) (whole ∙ ap (λ (i : ℕ). take i (drop at s)) (sym as-long))
 
-  pub read-typed : Small (t .store) → Small raw → (r : Outcome) (bs : List ℕ) → both r bs ≡ readOf t p buffer raw extents → r ≡ outcome.Done
-      → (rest : List ℕ) → loadedAs (loaded ty (bs ++ rest)) ≡ foundOf (readAs t p ty raw extents)
-  unfolding loaded
-  read-typed stored held r bs f d rest =
-      let h : both outcome.Done bs ≡ readOf t p buffer raw extents = ap (λ (o : Outcome). both o bs) (sym d) ∙ f in
-      let n = size (kindOf ty) in
-      let g : Bytes n bs = subst (λ (k : ℕ). Bytes k bs) l (read-bytes t p raw extents buffer stored held bs h) in
-      let e : length bs ≡ n = g .0 in
-      let m : n ≤ length (bs ++ rest) = rw length-append (omega arith) in
-      rw (le-leb n (length (bs ++ rest)) m, take-at bs rest n e)
-      (loaded-back (fromBytes ty bs) (read-good ty bs g) ∙ ap foundOf (as-read outcome.Done bs h))
+  pub read-local : (at : ℕ) → readAccessOf t p n ≡ source.Local at → Small (t .store) → loadedAs (loaded ty (take (at + n - at) (drop at (t .store)))) ≡ foundOf (readAs t p ty raw extents)
+  read-local at e small = part-loaded (t .store) at (read-fits t p n at e) small ∙ ap foundOf (as-got (source.Local at) e)
 
--- a part of a fresh array of eight
-pub zeros-part : (ty : IrType) (n : ℕ) → n ≡ size (kindOf ty) → length (take (n - 0) zeros) ≡ size (kindOf ty)
-zeros-part ty n e =
-    let s = size-small (kindOf ty) in
-    length-take-le (n - 0) zeros (omega arith) ∙ sub-zero n ∙ e
+  pub not-read : (x : ℕ) → readAccessOf t p n ≡ source.Refused x → found 0 x ≡ foundOf (readAs t p ty raw extents)
+  not-read x e = ap foundOf (as-got (source.Refused x) e)
+
+  module _ (k : ℕ) (e : readAccessOf t p n ≡ source.Constant k) where
+    as-taken : (x : Place) → constantAccessOf k n raw extents ≡ x → valueIn ty (takenAt x fresh raw .answer) (takenAt x fresh raw .table) ≡ readAs t p ty raw extents
+    unfolding constantOf
+    as-taken x d =
+        ap (λ (y : Place). valueIn ty (takenAt y fresh raw .answer) (takenAt y fresh raw .table)) (sym d ∙ ap (λ (i : ℕ). constantAccessOf k i raw extents) (sym as-long))
+        ∙ as-got (source.Constant k) e
+
+    pub read-constant : (at : ℕ) → constantAccessOf k n raw extents ≡ place.At at → Small raw → loadedAs (loaded ty (take (at + n - at) (drop at raw))) ≡ foundOf (readAs t p ty raw extents)
+    read-constant at d small = part-loaded raw at (constant-fits k n raw extents at d) small ∙ ap foundOf (as-taken (place.At at) d)
+
+    pub no-constant : (x : ℕ) → constantAccessOf k n raw extents ≡ place.Refused x → found 0 x ≡ foundOf (readAs t p ty raw extents)
+    no-constant x d = ap foundOf (as-taken (place.Refused x) d)
 
 -- ---- Read
 

@@ -19,6 +19,7 @@ use operations::integer::negate;
 use operations::integer::rem;
 use operations::integer::sub;
 use value::Computed;
+use value::Double;
 use value::FloatCmp;
 use value::FloatComparison;
 use value::IntCmp;
@@ -152,13 +153,31 @@ fn difference(tag: u64, a: u64, b: u64) -> Found
     Found { tag, bits: a - b }
 }
 
-// The short way of two unsigned integers of one kind, by their bits alone; tag 0 where it does not lead to an answer.
+// FDiv of two F64, whose kinds need no search; tag 0 for other kinds and opcodes.
+fn quotient(opcode: u64, x: Found, y: Found) -> Found
+    ensures { λ r. ⌜ ((r .tag ≡ 0 → ⊥) → (how : ℕ) → r ≡ foundOf (binaryOf opcode how x y)) ⌝ }
+{
+    if opcode != 13 {
+        return Found { tag: 0, bits: 0 };
+    }
+    if x.tag != IrType::F64_TAG {
+        return Found { tag: 0, bits: 0 };
+    }
+    if y.tag != IrType::F64_TAG {
+        return Found { tag: 0, bits: 0 };
+    }
+    let a = IrValue::F64(Double::from_bits(x.bits));
+    let b = IrValue::F64(Double::from_bits(y.bits));
+    found(fdiv(a, b))
+}
+
+// The short way of two unsigned integers of one kind, by their bits alone, or of two F64; tag 0 where it does not lead to an answer.
 fn short(opcode: u64, how: u64, x: Found, y: Found) -> Found
     ensures { λ r. ⌜ ((r .tag ≡ 0 → ⊥) → r ≡ foundOf (binaryOf opcode how x y)) ⌝ }
 {
     let top = greatest(x.tag);
     if top == 0 {
-        return Found { tag: 0, bits: 0 };
+        return quotient(opcode, x, y);
     }
     if x.tag != y.tag {
         return Found { tag: 0, bits: 0 };

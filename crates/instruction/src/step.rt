@@ -1,12 +1,11 @@
 // One instruction: its fields are read again at its place, and its parts done in order. The registers that an instruction
 // is given have the next place already; a refusal leaves every table as it stood.
 ghost use mathlib.Core.Path.{_≡_};
-ghost use mathlib.Core.Bool.{true};
-ghost use Prim.Native.Nat.{ℕ, _≤_, _<_};
+ghost use Prim.Native.Nat.{ℕ, _+_, _%_, _≤_, _<_};
 ghost use lib.ListN.{length, getD};
 ghost use Rattle.memory.specs.Tables.{both};
 ghost use Rattle.instruction.specs.Decode.{fieldAt};
-ghost use Rattle.instruction.specs.Short.{Pairs};
+ghost use Rattle.instruction.specs.Short.{First};
 ghost use Rattle.instruction.specs.Code.{finishedOf, assignedOf, wentOf, jumpedOf, keyOf, branchOf, switchedOf, middleOf, combinedOf, changedOf};
 use crate::compute::binary;
 use crate::compute::unary;
@@ -26,6 +25,12 @@ pub enum Progress {
     Next(Registers),
     Ended(Registers, Found),
     Refused(u64),
+}
+
+// What a look over the bytes of many branches finds.
+struct Seen {
+    greatest: u8,
+    first: u8,
 }
 
 // A result goes to a variable, or is refused.
@@ -94,63 +99,86 @@ fn larger(a: u8, b: u8) -> u8
     a
 }
 
-// The greatest of the bytes from `start` up to `end`.
-fn greatest_byte(image: &[u8], start: usize, end: usize) -> u8
-    requires { ⌜ end ≤ length (now image) ⌝ }
-    ensures { λ r. ⌜ ((i : ℕ) → start ≤ i → i < end → getD (now (image .entry)) i 0 ≤ r) ⌝ }
+fn lesser(a: u8, b: u8) -> u8
+    ensures { λ r. ⌜ (r ≤ a) × (r ≤ b) × ((r ≡ a → ⊥) → r ≡ b) ⌝ }
+{
+    if b < a {
+        return b;
+    }
+    a
+}
+
+// Place k, if it is even and its byte is the number; else 255.
+fn chosen(byte: u8, number: u8, k: u8) -> u8
+    ensures { λ r. ⌜ (k % 2 ≡ 0 → byte ≡ number → r ≡ k) × ((r ≡ 255 → ⊥) → (r ≡ k) × (k % 2 ≡ 0) × (byte ≡ number)) ⌝ }
+{
+    if k % 2 != 0 {
+        return 255;
+    }
+    if byte != number {
+        return 255;
+    }
+    k
+}
+
+// The greatest of the bytes, and the first even place among them with this number, or 255. No byte ends the search, so that many are looked at together.
+fn look(image: &[u8], start: usize, size: usize, number: u8) -> Seen
+    requires { ⌜ (start + size ≤ length (now image)) × (size ≤ 128) ⌝ }
+    ensures { λ r. ⌜ ((i : ℕ) → start ≤ i → i < start + size → getD (now (image .entry)) i 0 ≤ r .greatest) × First (now (image .entry)) start size number (r .first) ⌝ }
 {
     let mut greatest = 0u8;
-    let mut at = start;
-    while at < end {
-        greatest = larger(greatest, image[at]);
-        at += 1;
+    let mut first = 255u8;
+    let mut k = 0;
+    while k < size {
+        let byte = image[start + k];
+        greatest = larger(greatest, byte);
+        first = lesser(first, chosen(byte, number, k as u8));
+        k += 1;
     }
-    greatest
+    Seen { greatest, first }
 }
 
-// Whether the branches are many, and each a number and a label of one byte.
-fn is_short(image: &[u8], start: usize, count: u64) -> bool
-    ensures { λ r. ⌜ (r ≡ true → Pairs (now (image .entry)) start count) ⌝ }
+// Where the label of the first branch with this number stands, or the default, if the branches are many, and each a number and a
+// label of one byte; else 0.
+fn label_place(image: &[u8], start: usize, count: u64, bits: u64) -> usize
+    ensures { λ r. ⌜ ((r ≡ 0 → ⊥) → fieldAt (now (image .entry)) r ≡ branchOf (now (image .entry)) count bits start) ⌝ }
 {
-    if count < 8 {
-        return false;
-    }
     if start == 0 {
-        return false;
+        return 0;
+    }
+    if count < 8 {
+        return 0;
+    }
+    if 64 < count {
+        return 0;
+    }
+    if 127 < bits {
+        return 0;
     }
     if image.len() < start {
-        return false;
+        return 0;
     }
     if (((image.len() - start) / 2) as u64) < count {
-        return false;
+        return 0;
     }
-    let end = start + count as usize * 2;
-    greatest_byte(image, start, end) < 128
-}
-
-// Where the label of the first of `count` such branches with this number stands, or the default.
-fn label_place(image: &[u8], start: usize, count: u64, bits: u64) -> usize
-    requires { ⌜ Pairs (now image) start count ⌝ }
-    ensures { λ r. ⌜ fieldAt (now (image .entry)) r ≡ branchOf (now (image .entry)) count bits start ⌝ }
-{
-    let mut at = start;
-    let mut left = count;
-    while 0 < left {
-        if wide(image[at]) == bits {
-            return at + 1;
-        }
-        at += 2;
-        left -= 1;
+    let size = count as usize * 2;
+    let seen = look(image, start, size, bits as u8);
+    if 127 < seen.greatest {
+        return 0;
     }
-    at
+    if seen.first == 255 {
+        return start + size;
+    }
+    start + seen.first as usize + 1
 }
 
 // The label of the first of `count` branches with this number, or the default.
 pub fn branch(image: &[u8], start: usize, count: u64, bits: u64) -> Field
     ensures { λ r. ⌜ r ≡ branchOf (now (image .entry)) count bits start ⌝ }
 {
-    if is_short(image, start, count) {
-        return read_field(image, label_place(image, start, count, bits));
+    let place = label_place(image, start, count, bits);
+    if place != 0 {
+        return read_field(image, place);
     }
     let mut at = start;
     let mut left = count;

@@ -1,8 +1,12 @@
 // The instructions that reach through pointers: Initialize, Write, Read and Copy.
 ghost use mathlib.Core.Path.{_≡_};
-ghost use Rattle.memory.specs.Tables.{tables, both, out};
+ghost use mathlib.Core.Bool.{true};
+ghost use Rattle.memory.specs.Tables.{tables, both, out, writtenOf};
 ghost use Rattle.instruction.specs.Compute.{foundOf};
+ghost use Rattle.value.specs.Value.{leBytes};
 ghost use Rattle.value.specs.Ir.{typeOf};
+ghost use Rattle.value.specs.Ir.{loaded as Ir·loaded};
+ghost use Rattle.instruction.specs.Short.{Word};
 ghost use Rattle.instruction.specs.Code.{stepped};
 ghost use Rattle.instruction.specs.Storage.{progressOf, storedOf, writeOf, loadedAs, readAs, readingOf, madeOf, initializedOf, copyingOf};
 use crate::field::read_field;
@@ -16,9 +20,12 @@ use crate::variables::evaluate;
 use copying::copy_bytes;
 use memory::Given;
 use memory::Outcome;
+use memory::Place;
 use memory::Registers;
+use memory::Source;
 use memory::allocate;
-use memory::read_bytes;
+use memory::constant_access;
+use memory::read_access;
 use memory::write_bytes;
 use value::IrType;
 use value::IrValue;
@@ -40,7 +47,35 @@ pub fn progress(m: Registers, r: Outcome) -> Progress
     }
 }
 
-// The value's bytes are written through pointer p.
+// Whether any eight bytes are a value of the tag's kind: U64, I64, F64 and Pointer.
+fn is_word(tag: u64) -> bool
+    ensures { λ r. ⌜ (r ≡ true → Word tag) ⌝ }
+{
+    match tag {
+        IrType::U64_TAG | IrType::I64_TAG | IrType::F64_TAG | IrType::POINTER_TAG => true,
+        _ => false,
+    }
+}
+
+// Eight bytes, low byte first, are written through pointer p.
+fn write_word(
+    m: Registers,
+    p: usize,
+    bits: u64,
+    store: &mut [u8],
+    frames: &[u64],
+    bounds: &[u64],
+    pointers: &[u64],
+) -> Outcome
+    ensures { λ a. ⌜ both a (now (store .exit)) ≡ writtenOf (tables m (now (store .entry)) (now (frames .entry)) (now (bounds .entry)) (now (pointers .entry))) p (leBytes 8 bits) ⌝ }
+{
+    let value = IrValue::U64(bits);
+    let mut bytes = [0u8; 8];
+    value.write(&mut bytes);
+    write_bytes(m, p, &bytes, store, frames, bounds, pointers)
+}
+
+// The value's bytes are written through pointer p. Those that take eight are written without a search for their kind.
 pub fn write_value(
     m: Registers,
     p: usize,
@@ -54,6 +89,9 @@ pub fn write_value(
 {
     if v.tag == 0 {
         return Outcome::Refused(v.bits);
+    }
+    if is_word(v.tag) {
+        return write_word(m, p, v.bits, store, frames, bounds, pointers);
     }
     match IrValue::from_bits(v.tag, v.bits) {
         Made::Value(value) => {
@@ -107,6 +145,22 @@ pub fn loaded(r: Loaded) -> Found
     }
 }
 
+// The value of the type at the front of `from`. One of eight bytes is read as a U64, and has its own tag.
+fn value_in(ty: IrType, from: &[u8]) -> Found
+    ensures { λ r. ⌜ r ≡ loadedAs (Ir·loaded (typeOf ty) (now (from .entry))) ⌝ }
+{
+    if ty.size() == 8 {
+        let word = loaded(IrValue::read(IrType::U64, from));
+        if word.tag != 0 {
+            return Found {
+                tag: ty.tag(),
+                bits: word.bits,
+            };
+        }
+    }
+    loaded(IrValue::read(ty, from))
+}
+
 // A value of the type, through pointer p.
 pub fn read_typed(
     m: Registers,
@@ -121,21 +175,20 @@ pub fn read_typed(
 ) -> Found
     ensures { λ r. ⌜ r ≡ foundOf (readAs (tables m (now (store .entry)) (now (frames .entry)) (now (bounds .entry)) (now (pointers .entry))) p (typeOf ty) (now (image .entry)) (now (extents .entry))) ⌝ }
 {
-    let mut bytes = [0u8; 8];
     let size = ty.size();
-    match read_bytes(
-        m,
-        p,
-        &mut bytes[0..size],
-        store,
-        frames,
-        bounds,
-        pointers,
-        image,
-        extents,
-    ) {
-        Outcome::Done => loaded(IrValue::read(ty, &bytes)),
-        Outcome::Refused(n) => Found { tag: 0, bits: n },
+    match read_access(m, p, size, store, frames, bounds, pointers) {
+        Source::Local(at) => {
+            let end = at + size;
+            value_in(ty, &store[at..end])
+        }
+        Source::Constant(k) => match constant_access(k, size as u64, image, extents) {
+            Place::At(at) => {
+                let end = at + size;
+                loaded(IrValue::read(ty, &image[at..end]))
+            }
+            Place::Refused(n) => Found { tag: 0, bits: n },
+        },
+        Source::Refused(n) => Found { tag: 0, bits: n },
     }
 }
 

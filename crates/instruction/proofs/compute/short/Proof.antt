@@ -1,4 +1,4 @@
--- `compute::short` meets its contract: past its tests stand two numbers of one unsigned kind, which each arm combines.
+-- `compute::short` meets its contract: past its tests stand two numbers of one unsigned kind, which each arm combines; what is none of these goes to `quotient`.
 use mathlib.Core.Path.{refl}
 use native.Mathlib.Omega.{arith}
 use borrow.Author.Needs.{needs}
@@ -9,8 +9,11 @@ use Rattle.instruction.proofs.compute.short.Tie as tie
 greatest-requires : tie.Need-greatest-requires
 greatest-requires c κs = search needs
 
+quotient-requires : tie.Need-quotient-requires
+quotient-requires c κs = search needs
+
 returns : tie.Need-returns
-returns c n = absurd (n refl)
+returns c n = c .quotient .ensures n _
 
 returns-2 : tie.Need-returns-2
 returns-2 c n = absurd (n refl)
@@ -51,6 +54,7 @@ short-spec =
     tie.close
     (tie.spec
     greatest-requires
+    quotient-requires
     returns
     returns-2
     returns-3

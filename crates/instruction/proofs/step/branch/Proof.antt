@@ -8,22 +8,19 @@ use Rattle.instruction.proofs.step.branch.Statement.{statement}
 use Rattle.instruction.proofs.step.branch.Tie as tie
 
 abbrev Inv-loop : tie.InvT-loop
-Inv-loop image start count bits at₀ left₀ at left = branchOf image left bits at ≡ branchOf image count bits start
+Inv-loop image start count bits place at₀ left₀ at left = branchOf image left bits at ≡ branchOf image count bits start
 
 abbrev μ-loop : tie.MeasureT-loop
-μ-loop image start count bits at₀ left₀ at left = left
-
-is-short-requires : tie.Need-is-short-requires Inv-loop μ-loop
-is-short-requires c κs = search needs
+μ-loop image start count bits place at₀ left₀ at left = left
 
 label-place-requires : tie.Need-label-place-requires Inv-loop μ-loop
-label-place-requires c κs = c .before .is-short .ensures (c .if1 .taken)
+label-place-requires c κs = search needs
 
 read-field-requires : tie.Need-read-field-requires Inv-loop μ-loop
 read-field-requires c κs = search needs
 
 returns : tie.Need-returns Inv-loop μ-loop
-returns c = c .read-field .ensures ∙ c .before .label-place .ensures
+returns c = c .read-field .ensures ∙ c .before .before .label-place .ensures (c .before .if1 .taken)
 
 loop-holds : tie.Need-loop-holds Inv-loop μ-loop
 loop-holds c = refl
@@ -62,7 +59,6 @@ branch-spec =
     (tie.spec
     Inv-loop
     μ-loop
-    is-short-requires
     label-place-requires
     read-field-requires
     returns

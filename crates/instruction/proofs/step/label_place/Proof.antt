@@ -1,63 +1,79 @@
--- `step::label_place` meets its contract. The loop's invariant: what is left of the branches gives what all of them give. The measure is how many are left.
-use Prim.Native.Nat.{_+_, _*_, _≤_}
-use native.Mathlib.Omega.{arith}
-use mathlib.Core.Path.{_≡_, refl, sym, _∙_}
+-- `step::label_place` meets its contract: past its tests stand pairs of one byte each, and what was seen first is the branch, or there is none.
+use mathlib.Core.Path.{refl}
+use Rattle.instruction.proofs.Short.{many-pairs, first-hit, first-missing}
 use borrow.Author.Needs.{needs}
-use Rattle.instruction.specs.Code.{branchOf}
-use Rattle.instruction.proofs.Laws.{branch-none}
-use Rattle.instruction.proofs.Short.{pair-hit, pair-on}
 use Rattle.instruction.proofs.step.label_place.Statement.{statement}
 use Rattle.instruction.proofs.step.label_place.Tie as tie
 
-abbrev Inv-loop : tie.InvT-loop
-Inv-loop image start count bits at₀ left₀ at left = (branchOf image left bits at ≡ branchOf image count bits start) × (at + left * 2 ≡ start + count * 2) × (start ≤ at)
+returns : tie.Need-returns
+returns c n = absurd (n refl)
 
-abbrev μ-loop : tie.MeasureT-loop
-μ-loop image start count bits at₀ left₀ at left = left
+returns-2 : tie.Need-returns-2
+returns-2 c n = absurd (n refl)
 
-loop-holds : tie.Need-loop-holds Inv-loop μ-loop
-loop-holds c = (refl, refl, omega arith)
+returns-3 : tie.Need-returns-3
+returns-3 c n = absurd (n refl)
 
-shared-slice-read-wide : tie.Need-shared-slice-read-wide Inv-loop μ-loop
-shared-slice-read-wide c = omega (arith, c .before .before .before .before .pre .room)
+returns-4 : tie.Need-returns-4
+returns-4 c n = absurd (n refl)
 
-wide-requires : tie.Need-wide-requires Inv-loop μ-loop
-wide-requires c κs = search needs
+returns-5 : tie.Need-returns-5
+returns-5 c n = absurd (n refl)
 
-add-result : tie.Need-add-result Inv-loop μ-loop
-add-result c = omega (arith, c .before .before .before .before .before .before .pre .room)
+sub-if6 : tie.Need-sub-if6
+sub-if6 c = search needs
 
-returns : tie.Need-returns Inv-loop μ-loop
-returns c = pair-hit _ _ _ _ _ _ _ (c .before .before .before .before .before .before .pre) (c .before .before .before .before .loop .inv .2) (c .before .before .before .before .loop .inv .1) (c .before .before .before .loop-test .taken) (c .before .wide .ensures) (c .if1 .taken) ∙ c .before .before .before .before .loop .inv .0
+returns-6 : tie.Need-returns-6
+returns-6 c n = absurd (n refl)
 
-add-at : tie.Need-add-at Inv-loop μ-loop
-add-at c = omega (arith, c .before .before .before .before .before .before .pre .room)
+mul-size : tie.Need-mul-size
+mul-size c = search needs
 
-sub-left : tie.Need-sub-left Inv-loop μ-loop
-sub-left c = search needs
+cast-look : tie.Need-cast-look
+cast-look c = search needs
 
-loop-less : tie.Need-loop-less Inv-loop μ-loop
-loop-less c = omega arith
+look-requires : tie.Need-look-requires
+look-requires c κs = search needs
 
-loop-again : tie.Need-loop-again Inv-loop μ-loop
-loop-again c = (pair-on _ _ _ _ _ _ _ (c .before .before .before .before .before .before .pre) (c .before .before .before .before .loop .inv .2) (c .before .before .before .before .loop .inv .1) (c .before .before .before .loop-test .taken) (c .before .wide .ensures) (c .if1 .left) ∙ c .before .before .before .before .loop .inv .0, omega arith, omega arith)
+returns-7 : tie.Need-returns-7
+returns-7 c n = absurd (n refl)
 
-returns-2 : tie.Need-returns-2 Inv-loop μ-loop
-returns-2 c = sym (branch-none _ _ _ _ (omega arith)) ∙ c .before .loop .inv .0
+add-result : tie.Need-add-result
+add-result c = search needs
+
+returns-8 : tie.Need-returns-8
+returns-8 c n = first-missing _ _ _ _ (many-pairs _ _ _ _ (c .before .before .before .before .before .before .before .before .before .before .if1 .left) (c .before .before .before .before .before .before .if5 .left) (c .before .before .before .before .before .if6 .left) (c .before .before .if7 .left) (c .before .before .before .before .look .ensures .0)) _ (c .before .before .before .before .look .ensures .1) (c .if8 .taken) (c .before .before .before .before .before .before .before .before .if3 .left)
+
+cast-result : tie.Need-cast-result
+cast-result c = search needs
+
+add-result-2 : tie.Need-add-result-2
+add-result-2 c = search needs
+
+add-result-3 : tie.Need-add-result-3
+add-result-3 c = search needs
+
+returns-9 : tie.Need-returns-9
+returns-9 c n = first-hit _ _ _ _ (many-pairs _ _ _ _ (c .before .before .before .before .before .before .before .before .before .before .before .if1 .left) (c .before .before .before .before .before .before .before .if5 .left) (c .before .before .before .before .before .before .if6 .left) (c .before .before .before .if7 .left) (c .before .before .before .before .before .look .ensures .0)) _ (c .before .before .before .before .before .look .ensures .1) (c .before .if8 .left)
 
 pub label-place-spec : {M : Type 1} → statement M
 label-place-spec =
     tie.close
     (tie.spec
-    Inv-loop
-    μ-loop
-    loop-holds
-    shared-slice-read-wide
-    wide-requires
-    add-result
     returns
-    add-at
-    sub-left
-    loop-less
-    loop-again
-    returns-2)
+    returns-2
+    returns-3
+    returns-4
+    returns-5
+    sub-if6
+    returns-6
+    mul-size
+    cast-look
+    look-requires
+    returns-7
+    add-result
+    returns-8
+    cast-result
+    add-result-2
+    add-result-3
+    returns-9)
