@@ -38,7 +38,7 @@ use Rattle.instruction.specs.declared.step.Progress.the-variants.{Refused}
 use Rattle.calls.proofs.CallAgrees.{moved-sound, moved-seen}
 use Rattle.calls.proofs.VariablesAgree.{read-next}
 use Rattle.agree.specs.Seen.{seen, Agrees}
-use Rattle.agree.proofs.Fields.{field-stands, operand-stands, operand-last}
+use Rattle.instruction.proofs.Fields.{field-stands, operand-stands, operand-last}
 use Rattle.instruction.proofs.Values.{Fits, found-answer, operand-found, operand-good}
 use Rattle.agree.proofs.Bytes.{paste-bytes, bytes-are}
 use Rattle.agree.proofs.Steady.{Steady, runs}

@@ -22,7 +22,7 @@ use Rattle.instruction.specs.Code.{assignedOf, middleOf, combinedOf, changedOf}
 use Rattle.instruction.proofs.Decoded.{asRead}
 use Rattle.calls.proofs.VariablesAgree.{read-next}
 use Rattle.agree.specs.Seen.{seen}
-use Rattle.agree.proofs.Fields.{field-stands, operand-stands, operand-last}
+use Rattle.instruction.proofs.Fields.{field-stands, operand-stands, operand-last}
 use Rattle.instruction.proofs.Values.{Fits, found-answer, operand-found, operand-good}
 use Rattle.agree.proofs.Steady.{Steady}
 use Rattle.agree.proofs.Finish.{onward, VariablesAgree, finish-agrees}

@@ -4,7 +4,7 @@ use native.Mathlib.Omega.{arith}
 use mathlib.Core.Bool.{Bool, true, false}
 use mathlib.Core.Path.{_≡_, refl, sym, ap, subst}
 use mathlib.Core.List.{List}
-use lib.Dec.{T, eqb}
+use lib.Dec.{eqb}
 use borrow.Author.Tests.{eqb-true}
 use Rattle.image.specs.Parse.{Got, took, refused, andThen}
 use Rattle.image.specs.Program.{Program}
@@ -16,6 +16,7 @@ use Rattle.memory.specs.Tables.{State, soundOf}
 use Rattle.memory.specs.declared.Registers.{Registers}
 use Rattle.value.specs.Answer.{Answer, ok, need, pick}
 use Rattle.value.specs.Refusal.{idle}
+use Rattle.value.proofs.Truth.{is-true}
 use Rattle.machine.specs.Machine.{Stepped, step, stepOnce, runFrom, run}
 use Rattle.machine.specs.Sound.{sound}
 use Rattle.machine.specs.Asks.{Ask, toStep, toRun, turn, refusal, steps, goes, ask}
@@ -37,10 +38,6 @@ use Rattle.agree.proofs.Loaded.{loaded-follows}
 use Rattle.agree.proofs.Step.{step-agrees}
 use Rattle.agree.proofs.Run.{ran-agrees, ran-kept, ran-bytes}
 use Rattle.image.specs.Limits.{AreBytes}
-
-pub is-true : (b : Bool) → T b → b ≡ true
-is-true true t = refl
-is-true false t = absurd t
 
 -- an image that was loaded is read to its end
 pub loaded-end : (s : List ℕ) (P : Program) (e : ℕ) → loaded s ≡ took P e → loadedFrom s .end ≡ At e

@@ -7,6 +7,7 @@ use mathlib.Core.List.{List}
 use borrow.Author.Tests.{eq-eqb}
 use Rattle.value.specs.Answer.{Answer, ok, refused, _>>=_}
 use Rattle.value.specs.Value.{Value}
+use Rattle.value.proofs.Tags.{tag-some}
 use Rattle.memory.specs.Memory.{Memory}
 use Rattle.memory.specs.Tables.{Both, tables, State, state}
 use Rattle.memory.specs.declared.Registers.{Registers}
@@ -19,7 +20,7 @@ use Rattle.instruction.specs.declared.step.Progress.{Progress}
 use Rattle.instruction.specs.declared.step.Progress.the-variants.{Refused}
 use Rattle.calls.proofs.CallAgrees.{moved-sound, moved-seen}
 use Rattle.agree.specs.Seen.{seen, Agrees}
-use Rattle.instruction.proofs.Values.{tag-some, variable-set, variables-kept}
+use Rattle.instruction.proofs.Values.{variable-set, variables-kept}
 use Rattle.agree.proofs.Steady.{Steady, runs}
 
 -- the same machine, part by part

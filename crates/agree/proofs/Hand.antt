@@ -29,7 +29,7 @@ use Rattle.instruction.specs.declared.step.Progress.the-variants.{Refused}
 use Rattle.calls.proofs.CallAgrees.{moved, moved-sound, moved-seen}
 use Rattle.calls.proofs.VariablesAgree.{read-next}
 use Rattle.agree.specs.Seen.{seen, Agrees}
-use Rattle.agree.proofs.Fields.{field-stands, operand-stands}
+use Rattle.instruction.proofs.Fields.{field-stands, operand-stands}
 use Rattle.instruction.proofs.Values.{Fits, operand-found, operand-good, variable-set, variables-kept}
 use Rattle.agree.proofs.Steady.{Steady, runs}
 use Rattle.agree.proofs.Finish.{refusal, went-same, onward}

@@ -34,7 +34,7 @@ use Rattle.machine.specs.Entries.{enter}
 use Rattle.decode.specs.Extents.{extentsOf}
 use Rattle.eval.specs.Host.{hostAllocated, hostWritten, hostListed}
 use Rattle.eval.specs.Entry.{reading, readLoaded, readEntered}
-use Rattle.agree.specs.Seen.{seen}
+use Rattle.agree.specs.Seen.{seen, room}
 use Rattle.agree.specs.Turns.{allocatedState, allocatedTurn, writtenState, writtenTurn, readReply, readTurn, listedTurn}
 use Rattle.agree.proofs.Steady.{tables-sound, again-sound}
 use Rattle.agree.proofs.Hand.{Hands, hands, withholds}
@@ -82,10 +82,7 @@ least n x y =
     (λ b. let k = leb-false n y b in lt-leb n (min x y) (omega arith) ∙ sym (and-same a b)))
     (λ a. let h = leb-false n x a in lt-leb n (min x y) (omega arith) ∙ sym (ap (λ c. c && leb n y) a))
 
-abbrev pub shortest : (live frame allocation offset : List ℕ) → ℕ
-shortest l f a o = min (length l) (min (length f) (min (length a) (length o)))
-
-rooms : (n : ℕ) (l f a o : List ℕ) → leb n (shortest l f a o) ≡ roomyOf n (length l) (length f) (length a) (length o)
+rooms : (n : ℕ) (l f a o : List ℕ) → leb n (room l f a o) ≡ roomyOf n (length l) (length f) (length a) (length o)
 unfolding roomyOf
 rooms n l f a o =
     least n (length l) (min (length f) (min (length a) (length o)))
@@ -123,11 +120,11 @@ module _ (t : State) (so : soundOf t ≡ true) (bytes : AreBytes (t .memory .sto
       (read-view (t .memory) st s (extentsOf s) (c .inside) p buffer ∙ ap (λ cs. readBytes cs (view (t .memory)) p (length buffer)) (c .shown)))
 
   -- "41 list table shorter than the pointers"
-  pub list-enters : (l f a o : List ℕ) → listedTurn t (hostListed t l f a o) ≡ enter (toList (shortest l f a o)) (seen t)
+  pub list-enters : (l f a o : List ℕ) → listedTurn t (hostListed t l f a o) ≡ enter (toList (room l f a o)) (seen t)
   unfolding hostListed listedOf ask hostList lays need
   list-enters l f a o =
       let n = t .memory .registers .pointers in
-      rw (so, asked t so bytes (toList (shortest l f a o)), ready-test _ _ _ _ _ _ (st .ready), count-seen (t .memory) st, rooms n l f a o)
+      rw (so, asked t so bytes (toList (room l f a o)), ready-test _ _ _ _ _ _ (st .ready), count-seen (t .memory) st, rooms n l f a o)
       (go (roomyOf n (length l) (length f) (length a) (length o)) refl)
     where
       go : (b : Bool) → roomyOf (t .memory .registers .pointers) (length l) (length f) (length a) (length o) ≡ b

@@ -21,7 +21,7 @@ use Rattle.memory.specs.declared.Outcome.{Outcome}
 use Rattle.memory.specs.declared.Outcome.the-variants as outcome
 use Rattle.memory.proofs.Every.{by-test}
 use Rattle.memory.proofs.Facts.{Sound}
-use Rattle.memory.proofs.Pointers.{count-seen}
+use Rattle.memory.proofs.Pointers.{count-seen, never-given}
 use Rattle.memory.proofs.Allocating.{allocate-view, allocate-sound}
 use Rattle.memory.proofs.Access.{depth-is, write-view, write-sound}
 use Rattle.machine.specs.Machine.{Stepped, points, execute}
@@ -34,7 +34,7 @@ use Rattle.instruction.specs.Storage.{givenBy, filledBy, madeOf, unstepped, ini
 use Rattle.instruction.specs.declared.step.Progress.the-variants.{Next}
 use Rattle.calls.proofs.CallAgrees.{moved-sound, moved-seen}
 use Rattle.agree.specs.Seen.{seen, Agrees}
-use Rattle.agree.proofs.Fields.{field-stands}
+use Rattle.instruction.proofs.Fields.{field-stands}
 use Rattle.agree.proofs.Bytes.{zeroed-bytes, part-bytes}
 use Rattle.agree.proofs.Steady.{Steady, runs}
 use Rattle.agree.proofs.Finish.{refusal, went-same, onward, withVariables}
@@ -99,9 +99,6 @@ record Gives (t : Tables) (o : Out) (x : Answer Memory) : Type 0 where
 made-same : {p q : ℕ} {m n : Registers} → given.Made p m ≡ given.Made q n → m ≡ n
 made-same e = cc
 
-never-made : {k q : ℕ} {n : Registers} → given.Refused k ≡ given.Made q n → ⊥
-never-made e = let z : _≡_ {A = ℕ} 0 1 = cc in omega arith
-
 never-ok : {k : ℕ} {m : Memory} → refused k ≡ ok m → ⊥
 never-ok e = let z : _≡_ {A = ℕ} 0 1 = cc in omega arith
 
@@ -134,7 +131,7 @@ module _ (t : Tables) (frames bounds pointers : List ℕ) where
       rw (sym e)
       (wrote (r .answer) (r .table) _ (write-view u (so _ _ refl) (t .registers .pointers) bs) (write-sound u (so _ _ refl) (t .registers .pointers) bs)
       (written-bytes u (t .registers .pointers) bs g f) w h)
-  filled bs f _ store withholds x e so g left granted = rw (sym e) (record { same = refl; sound = λ p n h. absurd (never-made h); hand = withholds; bytes = g; left = left })
+  filled bs f _ store withholds x e so g left granted = rw (sym e) (record { same = refl; sound = λ p n h. absurd (never-given _ _ _ h); hand = withholds; bytes = g; left = left })
 
 -- what is allocated, where it is
 need-ok : (b : Bool) (n : ℕ) (a : Answer Memory) (m : Memory) → need b n a ≡ ok m → a ≡ ok m

@@ -9,6 +9,7 @@ use lib.Dec.{ltb, eqb}
 use borrow.Author.Tests.{lt-ltb, eq-eqb, ne-eqb, eqb-true, eqb-false}
 use Rattle.value.specs.Answer.{Answer, ok, refused, need, pick, _>>=_}
 use Rattle.value.specs.Value.{Value, Kind, bool, u8, u16, u32, u64, i8, i16, i32, i64, f32, f64, char, asn, pointer, tag, switches, switchOn}
+use Rattle.value.proofs.Tags.{tag-some}
 use Rattle.image.specs.Program.{Program, Operand, Branch, placeOf, Jump, Switch}
 use Rattle.image.specs.Written.{num, each, counted}
 use Rattle.image.specs.Written as W
@@ -26,8 +27,8 @@ use Rattle.instruction.specs.declared.step.Progress.the-variants.{Refused}
 use Rattle.calls.proofs.CallAgrees.{moved-sound, moved-seen}
 use Rattle.calls.proofs.VariablesAgree.{read-next}
 use Rattle.agree.specs.Seen.{seen, Agrees}
-use Rattle.agree.proofs.Fields.{field-stands, operand-stands}
-use Rattle.instruction.proofs.Values.{tag-some, Fits, operand-found}
+use Rattle.instruction.proofs.Fields.{field-stands, operand-stands}
+use Rattle.instruction.proofs.Values.{Fits, operand-found}
 use Rattle.agree.proofs.Steady.{Steady, runs}
 use Rattle.agree.proofs.Finish.{refusal, went-same, onward, withVariables}
 

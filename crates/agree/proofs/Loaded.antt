@@ -9,7 +9,6 @@ use Rattle.image.specs.Parse.{took}
 use Rattle.image.specs.Program.{Program, code}
 use Rattle.image.specs.Image.{loaded}
 use Rattle.loader.specs.Tables.{loadedFrom}
-use Rattle.memory.proofs.Laws.{both-true}
 use Rattle.machine.specs.Sound.{all, areBytes}
 use Rattle.machine.specs.Accepted.{accepted}
 use Rattle.decode.specs.Extents.{extentsOf}
@@ -19,6 +18,7 @@ use Rattle.decode.proofs.Accepted.{loaded-accepted}
 use Rattle.decode.proofs.Constants.{constants-shown, extents-inside}
 use Rattle.agree.proofs.Follows.{Follows}
 use Rattle.image.specs.Limits.{AreBytes}
+use Rattle.value.proofs.Truth.{both-true}
 
 module _ (s : List ℕ) (bytes : AreBytes s) (P : Program) (e : ℕ) (h : loaded s ≡ took P e) where
   constant-bytes : T (all areBytes (P .constants))

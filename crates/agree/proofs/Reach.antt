@@ -4,13 +4,14 @@ use lib.Dec.{eqb}
 use Rattle.value.specs.Refusal.{wrongKinds}
 use Rattle.value.specs.Answer.{Answer, ok, refused, need, pick, _>>=_}
 use Rattle.value.specs.Value.{Value, tag, pointer, same}
+use Rattle.value.proofs.Tags.{tag-some}
 use Rattle.memory.proofs.Every.{by-test}
 use Rattle.machine.specs.Machine.{asPointer}
 use Rattle.machine.proofs.Values.{Keeps, Good}
 use Rattle.instruction.specs.Compute.{foundOf}
 use Rattle.instruction.specs.declared.variables.Found.{Found}
 use Rattle.instruction.specs.Storage.{asPointerOf}
-use Rattle.instruction.proofs.Values.{tag-some, found-answer}
+use Rattle.instruction.proofs.Values.{found-answer}
 
 -- tag 0 is a refusal, with its number
 abbrev pub onFound : {X : Type 0} → (refuse go : ℕ → X) → Found → X

@@ -10,18 +10,19 @@ use lib.Dec.{leb}
 use borrow.Author.Tests.{eq-eqb, ne-eqb, le-leb, lt-leb, le-ltb, leb-true, leb-false}
 use Rattle.value.specs.Answer.{Answer, ok, refused, _>>=_}
 use Rattle.value.specs.Value.{Value, tag}
+use Rattle.value.proofs.Tags.{tag-some}
 use Rattle.image.specs.Program.{Program, Operand, Return}
 use Rattle.image.specs.Written.{maybe}
 use Rattle.image.specs.Written as W
 use Rattle.memory.specs.Memory.{popFrame}
 use Rattle.memory.specs.Tables.{Tables, both, tables, State, poppedOf, lowered}
 use Rattle.memory.specs.View.{view, variablesIn, variableIn, backIn}
-use Rattle.memory.specs.Stored.{storedValue}
 use Rattle.memory.specs.declared.Registers.{Registers}
 use Rattle.memory.specs.declared.Popped.the-variants as popped
 use Rattle.memory.proofs.Every.{by-test}
 use Rattle.memory.proofs.Facts.{Sound}
 use Rattle.memory.proofs.Frames.{pop-view, pop-sound}
+use Rattle.memory.proofs.Stored.{stored-value, stored-none}
 use Rattle.machine.specs.Machine.{valueOf, valueIf, setReturned, leave, ended, execute}
 use Rattle.machine.specs.Believed.{believed}
 use Rattle.machine.proofs.Values.{Keeps, kept, Good}
@@ -33,8 +34,8 @@ use Rattle.instruction.specs.declared.variables.Found.{Found}
 use Rattle.instruction.specs.declared.step.Progress.the-variants.{Refused}
 use Rattle.calls.proofs.CallAgrees.{moved-sound, moved-seen}
 use Rattle.agree.specs.Seen.{seen, returnedIn}
-use Rattle.agree.proofs.Fields.{field-stands, operand-last}
-use Rattle.instruction.proofs.Values.{tag-some, stored-value, Fits, operand-found, operand-good, variable-set, variables-kept}
+use Rattle.instruction.proofs.Fields.{field-stands, operand-last}
+use Rattle.instruction.proofs.Values.{Fits, operand-found, operand-good, variable-set, variables-kept}
 use Rattle.agree.proofs.Steady.{Steady, runs, rests}
 use Rattle.agree.proofs.Finish.{refusal, went-same, VariablesAgree}
 use Rattle.agree.proofs.Reach.{onFound}
@@ -75,8 +76,7 @@ GoodIf none = Unit
 GoodIf (some v) = Good v
 
 returned-back : (v : Option Value) → returnedIn (foundIf v) ≡ v
-unfolding storedValue
-returned-back none = refl
+returned-back none = stored-none 0
 returned-back (some v) = stored-value (v .kind) (v .bits)
 
 abbrev pub FitsIf : Option Operand → Type 0

@@ -12,8 +12,9 @@ use mir.Facts.{and-yes, yes-and}
 use Rattle.value.specs.Answer.{Answer, refused, need, pick}
 use Rattle.value.specs.Refusal as Refusal
 use Rattle.value.specs.Value.{Value, value, Kind, bool, u8, u16, u32, u64, i8, i16, i32, i64, f32, f64, char, asn, pointer, tag, isScalar, isBadChar}
-use Rattle.value.specs.Tags.{holds}
+use Rattle.value.specs.Tags.{holds, held}
 use Rattle.value.proofs.Tags.{kind-of-tag}
+use Rattle.value.proofs.Truth.{no, both-true, is-true}
 use Rattle.image.specs.Parse.{took}
 use Rattle.image.specs.Program.{Program, Function, functionAt}
 use Rattle.image.specs.Image.{loaded}
@@ -24,8 +25,7 @@ use Rattle.memory.specs.View.{view, variablesIn}
 use Rattle.memory.specs.declared.Registers.{Registers}
 use Rattle.memory.proofs.Facts.{Sound}
 use Rattle.memory.proofs.Every.{by-test, every-all, every-not}
-use Rattle.memory.proofs.Laws.{no, both-true}
-use Rattle.machine.specs.Machine.{Machine, allGood, asNumber, start}
+use Rattle.machine.specs.Machine.{Machine, allGood, start}
 use Rattle.machine.specs.Sound.{all}
 use Rattle.machine.specs.Accepted.{given}
 use Rattle.machine.specs.Asks.{toStart, turn, done, refusal, changes, ask}
@@ -36,11 +36,11 @@ use Rattle.instruction.specs.Code as Code
 use Rattle.instruction.specs.declared.variables.Found.{Found}
 use Rattle.instruction.proofs.Values.{Variables}
 use Rattle.calls.specs.Fields.{placeIn, calleeAt}
-use Rattle.calls.specs.Begin.{begunOf}
+use Rattle.calls.specs.Begin.{begunOf, tagsOf, bitsOf}
 use Rattle.calls.specs.declared.fields.Callee.{Callee}
 use Rattle.calls.proofs.VariablesAgree.{CalleeRead}
 use Rattle.calls.proofs.Stands.{function-stands}
-use Rattle.calls.proofs.StartAgrees.{StartAgrees, start-refused, start-went, tagsOf, bitsOf, AllGood, start-agrees}
+use Rattle.calls.proofs.StartAgrees.{StartAgrees, start-refused, start-went, AllGood, start-agrees}
 use Rattle.eval.specs.Loaded.{itemsOf}
 use Rattle.eval.specs.Entry.{Entering, steppedFrom, staying}
 use Rattle.eval.specs.Start.{isValue, valueAt, wantedOf, startRefusal, startLoaded, startEntered}
@@ -51,7 +51,7 @@ use Rattle.agree.proofs.Steady.{tables-sound, runs}
 use Rattle.agree.proofs.Step.{FollowsItems}
 use Rattle.agree.proofs.Loaded.{loaded-follows}
 use Rattle.agree.proofs.Call.{function-in, place-in}
-use Rattle.agree.proofs.Entries.{is-true, loaded-end, asked}
+use Rattle.agree.proofs.Entries.{loaded-end, asked}
 use Rattle.image.specs.Limits.{AreBytes}
 
 -- ---- "15 a Char that is no scalar value"
@@ -79,7 +79,7 @@ scalar-holds asn b t = sym (is-true (holds asn b) t)
 scalar-holds pointer b t = sym (is-true (holds pointer b) t)
 
 good-value : (v : Value) → T (given v) → isValue (tag (v .kind)) (v .bits) ≡ not (isBadChar v)
-unfolding isValue
+unfolding held
 good-value v t = rw (kind-of-tag (v .kind)) (sym (scalar-holds (v .kind) (v .bits) t))
 
 -- the values' own tests, one by one
@@ -127,7 +127,7 @@ same-tests : (a b c d : ℕ) → (a ≡ b → c ≡ d) → (c ≡ d → a ≡ b)
 same-tests a b c d f g =
     by-test (eqb a b) (λ t. t ∙ sym (eq-eqb c d (f (eqb-true a b t)))) (λ t. t ∙ sym (ne-eqb c d (λ e. eqb-false a b t (g e))))
 
-wanted-is : (f : Callee) (n m : ℕ) (b : Bool) → f .wanted ≡ m → f .flag ≡ flagNumber b → wantedOf f n ≡ eqb n (m + asNumber b)
+wanted-is : (f : Callee) (n m : ℕ) (b : Bool) → f .wanted ≡ m → f .flag ≡ flagNumber b → wantedOf f n ≡ eqb n (m + flagNumber b)
 unfolding wantedOf
 wanted-is f n m false e d = rw (d, e, add-zero m)
 wanted-is f n m true e d =
@@ -240,16 +240,16 @@ module _ (t : State) (so : soundOf t ≡ true) (bytes : AreBytes (t .memory .sto
           rw (place-in (itemsOf s .functions) n (omega (arith, f .functionsPlaced, inside))) (function-stands s (getD (itemsOf s .functions) n 0) F (there .end) (there .past) (there .stand))
 
       -- 14
-      counts : wantedOf (calleeAt s (placeIn (itemsOf s .functions) n)) (length (tagsOf gs)) ≡ eqb (length gs) (length (F .parameters) + asNumber (F .returnPointer))
+      counts : wantedOf (calleeAt s (placeIn (itemsOf s .functions) n)) (length (tagsOf gs)) ≡ eqb (length gs) (length (F .parameters) + flagNumber (F .returnPointer))
       counts =
           wanted-is (calleeAt s (placeIn (itemsOf s .functions) n)) (length (tagsOf gs)) (length (F .parameters)) (F .returnPointer) (callee .wanted) (callee .flag)
-          ∙ ap (λ k. eqb k (length (F .parameters) + asNumber (F .returnPointer))) (length-map gs (λ g. tag (g .kind)))
+          ∙ ap (λ k. eqb k (length (F .parameters) + flagNumber (F .returnPointer))) (length-map gs (λ g. tag (g .kind)))
 
-      by-count : eqb (length gs) (length (F .parameters) + asNumber (F .returnPointer)) ≡ false → Goal
+      by-count : eqb (length gs) (length (F .parameters) + flagNumber (F .returnPointer)) ≡ false → Goal
       unfolding startRefusal start need
       by-count b = refused-by Refusal.wrongArguments (λ z. omega arith) (rw (idle, f .functionsPlaced, fewer (length (P .functions)) n, known, counts, b) refl) (rw (idle, known, b) refl)
 
-      module _ (many : eqb (length gs) (length (F .parameters) + asNumber (F .returnPointer)) ≡ true) where
+      module _ (many : eqb (length gs) (length (F .parameters) + flagNumber (F .returnPointer)) ≡ true) where
         -- 15, of the context and of the arguments alike
         values : allGood (context ∷ gs) ≡ (isValue (tag (context .kind)) (context .bits) && every (length (tagsOf gs)) (valueAt (tagsOf gs) (bitsOf gs)))
         unfolding allGood
@@ -290,7 +290,7 @@ module _ (t : State) (so : soundOf t ≡ true) (bytes : AreBytes (t .memory .sto
   joined =
       by-test (eqb (m .running) 1) by-running
       (λ idle. by-test (ltb n (length (P .functions)))
-      (λ known. by-test (eqb (length gs) (length (F .parameters) + asNumber (F .returnPointer)))
+      (λ known. by-test (eqb (length gs) (length (F .parameters) + flagNumber (F .returnPointer)))
       (λ many. by-test (allGood (context ∷ gs)) (begins idle known many) (by-values idle known many))
       (by-count idle known))
       (by-function idle))

@@ -1,18 +1,18 @@
 -- A sound state, fact by fact, and back: what every instruction may take for granted of its tables, and what it has to leave.
 use Prim.Native.Nat.{ℕ, _≤_}
-use mathlib.Core.Bool.{Bool, true, _&&_}
+use mathlib.Core.Bool.{true}
 use mathlib.Core.Path.{_≡_}
 use mathlib.Core.List.{List}
 use lib.ListN.{length}
 use lib.Dec.{leb, eqb}
 use borrow.Author.Tests.{le-leb, leb-true, eq-eqb, eqb-true}
 use Rattle.memory.specs.Tables.{Tables, registers, State, state, memoryOk, registersOk, variableOk, every, soundOf}
-use Rattle.memory.proofs.Laws.{both-true}
 use Rattle.memory.proofs.Every.{every-at, every-all}
 use Rattle.memory.proofs.Facts.{Sound, sound-of, sound-test}
 use Rattle.agree.specs.Seen.{Runs}
 use Rattle.instruction.proofs.Values.{Variables}
 use Rattle.image.specs.Limits.{AreBytes}
+use Rattle.value.proofs.Truth.{both-true, and-true}
 
 -- the facts of a state that runs
 pub record Steady (s : State) : Type 0 where
@@ -22,9 +22,6 @@ pub record Steady (s : State) : Type 0 where
   pub running : s .memory .registers .running ≡ 1
   pub place : s .memory .registers .next ≤ 4096
   pub bytes : AreBytes (s .memory .store)
-
-and-true : {a b : Bool} → a ≡ true → b ≡ true → (a && b) ≡ true
-and-true e d = rw (e, d)
 
 -- the facts of any sound state
 pub tables-sound : (s : State) → soundOf s ≡ true → Sound (s .memory) × Variables (s .variables) × (s .memory .registers .next ≤ 4096)

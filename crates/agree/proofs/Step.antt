@@ -23,7 +23,7 @@ use Rattle.agree.specs.Seen.{Runs, seen}
 use Rattle.image.specs.Limits.{IsInstruction, countsOf}
 use Rattle.step.specs.Items.{Items}
 use Rattle.step.specs.Step.{dispatched, steppedOf}
-use Rattle.agree.proofs.Fields.{field-stands}
+use Rattle.instruction.proofs.Fields.{field-stands}
 use Rattle.agree.proofs.Finish.{refusal}
 use Rattle.agree.proofs.Steady.{Steady, steady}
 use Rattle.agree.proofs.Compute.{assign-agrees, int-compare-agrees, float-compare-agrees, add-agrees, sub-agrees, mul-agrees, div-agrees, mod-agrees, fdiv-agrees, not-agrees, negate-agrees}

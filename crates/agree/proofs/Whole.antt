@@ -18,9 +18,7 @@ use Rattle.machine.proofs.Values.{Keeps, Bytes}
 use Rattle.agree.specs.Seen.{seen}
 use Rattle.agree.proofs.Bytes.{part-bytes, are-bytes}
 use Rattle.image.specs.Limits.{AreBytes}
-
-is-yes : {b : Bool} → b ≡ true → T b
-is-yes e = rw e tt
+use Rattle.value.proofs.Truth.{is-yes}
 
 all-join : {A : Type 0} (f : A → Bool) (l r : List A) → T (all f l) → T (all f r) → T (all f (l ++ r))
 unfolding all

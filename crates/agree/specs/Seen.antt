@@ -1,6 +1,6 @@
 -- A state's tables as the machine a reader believes, and what an instruction's answer says of it, with the tables after it.
-use Prim.Native.Nat.{ℕ, _<_}
-use lib.ListN.{getD}
+use Prim.Native.Nat.{ℕ, min}
+use lib.ListN.{length}
 use mathlib.Core.Bool.{true}
 use mathlib.Core.Path.{_≡_}
 use mathlib.Core.List.{List}
@@ -53,3 +53,7 @@ Kept s (Refused n) after = after (s .memory .registers) ≡ s
 pub record Agrees (before : State) (answer : Progress) (after : Registers → State) (believed : Answer (Stepped Memory)) : Type 0 where
   pub same : outcome answer after ≡ believed
   pub kept : Kept before answer after
+
+-- the room of the list is that of its shortest slice
+abbrev pub room : (live frame allocation offset : List ℕ) → ℕ
+room l f a o = min (length l) (min (length f) (min (length a) (length o)))

@@ -4,9 +4,9 @@ use Prim.Native.Nat.{ℕ, suc, _+_, _/_, _%_, _^_, _<_, _≤_}
 use native.Mathlib.Decide.{decLe, ℕ-discrete}
 use native.Mathlib.Omega.{arith}
 use mathlib.Core.Bool.{Bool, true, false}
-use mathlib.Core.Path.{_≡_, refl, sym, ap, ap₂, _∙_}
+use mathlib.Core.Path.{_≡_, refl, sym, ap, _∙_}
 use mathlib.Core.List.{List, [], _∷_, _++_, map, append-assoc}
-use lib.ListN.{length, getD, length-append, List·getD-eq-default}
+use lib.ListN.{length, getD, List·getD-eq-default}
 use lib.Dec.{ltb, eqb}
 use borrow.Author.Tests.{eq-eqb, ne-eqb, eqb-true}
 use Rattle.value.specs.Answer.{pick}
@@ -14,7 +14,7 @@ use Rattle.words.specs.Ascii.{ascii}
 use Rattle.words.specs.Number.{allDigits, decimal, number}
 use Rattle.words.specs.Hex.{isHex, bytesSaid, glyph, pairsOf, hexOf}
 use Rattle.words.specs.Words.{until, onto, parts, words, lines}
-use Rattle.words.specs.Kinds.{name, kinds, names, nameOf, kindRead, fits, bitsRead}
+use Rattle.words.specs.Kinds.{name, names, nameOf, kindRead, fits}
 use Rattle.words.specs.Pairs.{pairSaid}
 use Rattle.words.specs.declared.Read.the-variants as read
 use Rattle.words.specs.declared.Pair.the-variants.{Value}
@@ -109,19 +109,19 @@ module _ (b : ℕ) (pass : every (name-test b) 0 names ≡ true) where
       ]
 
 no-space : every (name-test 32) 0 names ≡ true
-unfolding name-test until names name kinds
+unfolding name-test until names name
 no-space = refl
 
 no-end : every (name-test 10) 0 names ≡ true
-unfolding name-test until names name kinds
+unfolding name-test until names name
 no-end = refl
 
 pub no-colon : every (name-test 58) 0 names ≡ true
-unfolding name-test until names name kinds
+unfolding name-test until names name
 no-colon = refl
 
 pub no-equals : every (name-test 61) 0 names ≡ true
-unfolding name-test until names name kinds
+unfolding name-test until names name
 no-equals = refl
 
 -- ---- the shape of a line

@@ -7,9 +7,9 @@ use lib.ListN.{length, getD, set}
 use borrow.Author.Tests.{lt-ltb, le-ltb, eq-eqb, ne-eqb}
 use Rattle.memory.specs.declared.Registers.{Registers}
 use Rattle.memory.specs.declared.PointerRecord.{PointerRecord}
-use Rattle.memory.specs.Tables.{pointer}
+use Rattle.memory.specs.Tables.{pointer, withPointers}
 use Rattle.commands.specs.declared.Asked.{Asked}
-use Rattle.by_hand.specs.Changes.{variablePut, framePut, wordPut, pointerPut, constantsPut, more, withDepth, withPointers, registerPut, poked, pokedOf}
+use Rattle.by_hand.specs.Changes.{variablePut, framePut, wordPut, pointerPut, constantsPut, more, withDepth, registerPut, poked, pokedOf}
 
 -- ---- stores
 

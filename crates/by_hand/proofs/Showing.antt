@@ -1,17 +1,16 @@
 -- One thing more of a list that is written, the parts of tables that are shown, and a line in its parts.
 use Prim.Native.Nat.{ℕ, zero, suc, _+_, _-_, _*_, _≤_, _<_, min}
-use native.Mathlib.Nat.{min-eq-left, min-eq-right, min-le-left, min-le-right, add-zero}
+use native.Mathlib.Nat.{min-eq-left, min-eq-right, min-le-right, add-zero}
 use native.Mathlib.Decide.{decLe}
 use native.Mathlib.Numerals.{add-one}
 use native.Mathlib.Omega.{arith}
 use mathlib.Core.Bool.{Bool, true, false, _&&_}
 use mathlib.Core.Path.{_≡_, refl, sym, ap, ap₂, _∙_}
 use mathlib.Core.List.{List, [], _∷_, _++_}
-use lib.ListN.{length, getD, set, take, drop, length-set, length-take, length-drop, drop-of-length-le}
+use lib.ListN.{length, getD, set, take, drop, length-take, length-drop}
 use lib.Seq.{take-all, take-suc-set}
 use lib.Dec.{eqb}
 use borrow.Author.Tests.{eq-eqb, ne-eqb}
-use Rattle.value.specs.Answer.{pick}
 use Rattle.words.specs.Ascii.{ascii}
 use Rattle.words.specs.Text.{Text, puts}
 use Rattle.answers.specs.Lines.{Pieces, labelled}
@@ -78,12 +77,6 @@ count-taken l u n e = let h : n ≤ length l = omega (arith, min-le-right u (len
 
 -- from a first to a last, as far as there are
 module _ (l : List ℕ) (a e from to : ℕ) (p : to ≡ min e (length l)) (q : from ≡ min a to) where
-  pub between-to : to ≤ length l
-  between-to = omega (arith, min-le-right e (length l))
-
-  pub between-from : from ≤ to
-  between-from = omega (arith, min-le-right a to)
-
   pub between : take (to - from) (drop from l) ≡ take (e - a) (drop a l)
   between =
       elim (decLe a to) [

@@ -6,7 +6,7 @@ use lib.Dec.{ltb, eqb}
 use Rattle.value.specs.Answer.{pick}
 use Rattle.memory.specs.declared.Registers.{Registers}
 use Rattle.memory.specs.declared.PointerRecord.{PointerRecord}
-use Rattle.memory.specs.Tables.{registers, pointer, pointerSet, frameSet}
+use Rattle.memory.specs.Tables.{registers, pointer, pointerSet, frameSet, withPointers}
 use Rattle.commands.specs.Command as Command
 use Rattle.commands.specs.declared.Asked.{Asked}
 
@@ -40,9 +40,6 @@ more n by = min (n + by) (2 ^ 64 - 1)
 
 abbrev pub withDepth : Registers → ℕ → Registers
 withDepth m d = registers (m .running) (m .next) (m .counter) d (m .pointers)
-
-abbrev pub withPointers : Registers → ℕ → Registers
-withPointers m n = registers (m .running) (m .next) (m .counter) (m .depth) n
 
 -- `counter N`, `next N`, `running N`
 abbrev pub registerPut : Registers → (what value : ℕ) → Registers

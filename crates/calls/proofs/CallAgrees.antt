@@ -12,25 +12,27 @@ use Rattle.value.specs.Answer.{Answer, ok, refused, _>>=_}
 use Rattle.image.specs.Program.{Program, Operand, Declared, Function, functionAt, placeOf, Call}
 use Rattle.memory.specs.Memory.{Memory, Back, pushFrame}
 use Rattle.memory.specs.Tables.{Tables, tables, registers}
-use Rattle.memory.specs.View.{view, backIn, variableIn, variablesIn}
+use Rattle.memory.specs.View.{view, backIn, variablesIn}
 use Rattle.memory.specs.declared.Place.the-variants as place
 use Rattle.memory.proofs.Every.{by-test}
 use Rattle.memory.proofs.Facts.{Sound}
+use Rattle.memory.proofs.Exists.{variableOut, variable-back}
 use Rattle.machine.specs.Machine.{Vars, Machine, went, setFrom, asVariable, setArguments, toOf, makeSlots, execute}
 use Rattle.machine.specs.Machine as Machine
 use Rattle.machine.specs.Believed.{believed}
 use Rattle.instruction.specs.Code.{Stepped, stepped}
 use Rattle.instruction.specs.declared.step.Progress.the-variants as progress
 use Rattle.instruction.proofs.Values.{Variables}
+use Rattle.instruction.specs.Storage.{unstepped}
 use Rattle.calls.specs.Fields.{callAt, calleeAt, placeIn, entryOf}
 use Rattle.calls.specs.Variables.{slotsPointed, slotsOn, pointerOn}
-use Rattle.calls.specs.Code.{arrived, unchanged, calledIn, calledOf}
+use Rattle.calls.specs.Code.{arrived, calledIn, calledOf}
 use Rattle.calls.specs.declared.fields.CallFields.{CallFields}
 use Rattle.calls.specs.declared.fields.Callee.{Callee}
 use Rattle.calls.proofs.Rooms.{call-room-given}
 use Rattle.calls.proofs.SlotsAgree.{pointed}
 use Rattle.calls.proofs.EnterAgrees.{callRoom, EnterMade, enter-refused, enter-made}
-use Rattle.calls.proofs.VariablesAgree.{Alike, same-refusal, same-values, word, VariableFits, slots-pointed, Calling, believedRest, CalleeRead, FunctionFits, CallRead, CallFits, rest-alike}
+use Rattle.calls.proofs.VariablesAgree.{Alike, same-refusal, same-values, VariableFits, slots-pointed, Calling, believedRest, CalleeRead, FunctionFits, CallRead, CallFits, rest-alike}
 use Rattle.image.specs.Limits.{AreBytes}
 
 -- ---- the believed Call, its memory first and its variables then
@@ -69,7 +71,7 @@ grouped {A} {M} {B} {R} (ok a) b c d e k = slots (b a)
 
 -- "A refusal leaves state and lent buffers untouched"; else the tables after are sound, run, and show the believed machine's state
 pub data CallAgrees (t : Tables) (vars : List ℕ) : Stepped → Answer (Machine.Stepped Memory) → Type 0 where
-  call-refused : (n : ℕ) → CallAgrees t vars (unchanged t vars n) (refused n)
+  call-refused : (n : ℕ) → CallAgrees t vars (unstepped t vars n) (refused n)
   call-went : (after : Tables) (vs : List ℕ) → Sound after → Variables vs → after .registers .running ≡ 1 → after .registers .next ≤ 4096 → (AreBytes (t .store) → AreBytes (after .store))
       → CallAgrees t vars
       (stepped (progress.Next (after .registers)) (after .store) (after .frames) (after .bounds) (after .pointers) vs)
@@ -99,13 +101,7 @@ pub moved-seen : (t : Tables) (running next : ℕ) → view (moved t running nex
 unfolding view
 moved-seen t running next = refl
 
--- what a frame keeps of a Call's `to`
-back-word : (to : Option ℕ) → variableIn (word to) ≡ to
-unfolding variableIn
-back-word none = refl
-back-word (some x) = refl
-
-word-small : (o : Option ℕ) → VariableFits o → word o ≤ 256
+word-small : (o : Option ℕ) → VariableFits o → variableOut o ≤ 256
 word-small none f = omega arith
 word-small (some x) f = omega arith
 
@@ -197,8 +193,8 @@ called-in P s labels functions t vars at c F k read callee there label =
     sym (rw (ne-eqb _ _ (read .there), read .callee, e))
 
 -- the frame returns to the next place, and to the variable `to`
-back-same : (next place to : ℕ) (o : Option ℕ) → next ≡ place + 1 → to ≡ word o → backIn next to ≡ record { place = place + 1; var = o }
-back-same next place to o e d = ap₂ backIn e d ∙ ap (λ v. record { place = place + 1; var = v }) (back-word o)
+back-same : (next place to : ℕ) (o : Option ℕ) → next ≡ place + 1 → to ≡ variableOut o → backIn next to ≡ record { place = place + 1; var = o }
+back-same next place to o e d = ap₂ backIn e d ∙ ap (λ v. record { place = place + 1; var = v }) (variable-back o)
 
 -- Call, with its fields and its callee's as they are read in the image. `t` has the place after the Call's already.
 pub call-agrees : (P : Program) (s labels functions : List ℕ) (t : Tables) (vars : List ℕ) (at place : ℕ) (running : Bool)

@@ -1,17 +1,13 @@
--- Laws that the proofs of the fields' functions share: one turn of each loop that passes fields over, and that a settled answer is one.
+-- One turn of each loop that passes fields over: the laws that the proofs of the fields' functions share.
 use Prim.Native.Nat.{ℕ, zero, suc, _-_, _<_}
 use native.Mathlib.Numerals.{sub-one}
 use native.Mathlib.Omega.{arith}
-use mathlib.Core.Path.{_≡_, refl, sym, _∙_}
+use mathlib.Core.Path.{_≡_, refl}
 use mathlib.Core.List.{List}
 use Rattle.instruction.specs.Decode.{fieldAt, operandAt}
 use Rattle.instruction.specs.declared.field.Field.{Field}
 use Rattle.instruction.specs.declared.field.Operand.{Operand}
 use Rattle.calls.specs.Fields.{numbersSkipped, operandsSkipped}
-
--- Every contract of this crate says `answer ≡ definition`, with every lent table: two answers that it allows are equal.
-pub settled : {A : Type 0} {x y z : A} → x ≡ z → y ≡ z → x ≡ y
-settled e d = e ∙ sym d
 
 module _ (s : List ℕ) where
   -- ---- numbers and operands passed over

@@ -12,9 +12,8 @@ use Rattle.value.specs.Answer.{Answer, ok, refused, pick, _>>=_}
 use Rattle.value.specs.Value.{value, pointer}
 use Rattle.image.specs.Program.{Slot}
 use Rattle.memory.specs.Memory.{Memory, allocate}
-use Rattle.memory.specs.Tables.{Tables, tables, registers, Out, ready, live, topFirst, bound, more, zeroed, made, unmade, allocatedOf}
+use Rattle.memory.specs.Tables.{Tables, tables, registers, Out, ready, live, topFirst, bound, more, zeroed, made, unmade, allocatedOf, withPointers}
 use Rattle.memory.specs.View.{view, afterAllocate}
-use Rattle.memory.specs.declared.Registers.{Registers}
 use Rattle.memory.specs.declared.Moved.the-variants as moved
 use Rattle.memory.proofs.Every.{by-test}
 use Rattle.memory.proofs.Facts.{Sound, ready-test}
@@ -101,9 +100,6 @@ pointed (x ∷ xs) g vs = pointed xs (g + 1) (setTo vs (x .var) (value pointer g
 
 abbrev pub slotsNumber : (image : List ℕ) (at : ℕ) → List Slot → Tables → ℕ
 slotsNumber s at xs t = slotsRoomOf s (length xs) at (live t) (bound t (live t)) (t .registers .pointers)
-
-abbrev pub withPointers : Registers → ℕ → Registers
-withPointers m n = registers (m .running) (m .next) (m .counter) (m .depth) n
 
 -- what slots with room make: tables that are sound again and are the believed memory, and registers that differ in the number of pointers
 pub record SlotsMade (s : List ℕ) (at : ℕ) (xs : List Slot) (t : Tables) : Type 0 where

@@ -8,26 +8,27 @@ use mathlib.Core.List.{List, [], _∷_, _++_, append-assoc}
 use mathlib.Core.Option.{Option, none, some}
 use lib.ListN.{length, getD}
 use borrow.Author.Tests.{lt-leb, ne-eqb}
-use Rattle.value.specs.Value.{tag}
-use Rattle.image.specs.Program.{Operand, variable, literal, Slot, Declared, Program, Function, functionAt, placeOf, Call}
+use Rattle.image.specs.Program.{Operand, variable, Slot, Declared, Program, Function, functionAt, placeOf, Call}
 use Rattle.image.specs.Written.{Piece, num}
 use Rattle.image.specs.Written as W
 use Rattle.image.specs.Standing.{Stand}
 use Rattle.memory.specs.Tables.{Tables}
 use Rattle.memory.specs.View.{view, variablesIn}
 use Rattle.memory.proofs.Facts.{Sound}
+use Rattle.memory.proofs.Exists.{variableOut}
 use Rattle.machine.specs.Machine.{toOf, execute}
 use Rattle.machine.specs.Believed.{believed}
 use Rattle.instruction.specs.Decode.{field, fieldAt, operandAt}
 use Rattle.instruction.specs.declared.field.Field.{Field}
 use Rattle.instruction.specs.declared.field.Operand as code
-use Rattle.instruction.proofs.Decoded.{forward, field-took, asRead}
+use Rattle.instruction.proofs.Decoded.{asRead}
 use Rattle.instruction.proofs.Values.{Variables}
+use Rattle.instruction.proofs.Fields.{field-stands, operand-stands}
 use Rattle.calls.specs.Fields.{numbersSkipped, operandsSkipped, oneMore, optionalVariable, optionalTo, optionalOperand, slotAt, callAt, calleeAt, placeIn}
 use Rattle.calls.specs.Code.{calledOf}
 use Rattle.calls.specs.declared.fields.Spot.{Spot}
 use Rattle.calls.proofs.SlotsAgree.{SlotsRead}
-use Rattle.calls.proofs.VariablesAgree.{ParametersRead, OperandsRead, ContextRead, VariableFits, word, read-next, CalleeRead, FunctionFits, CallRead, CallFits}
+use Rattle.calls.proofs.VariablesAgree.{ParametersRead, OperandsRead, ContextRead, VariableFits, read-next, CalleeRead, FunctionFits, CallRead, CallFits}
 use Rattle.calls.proofs.CallAgrees.{CallAgrees, callingOf, call-agrees}
 
 module _ (s : List ℕ) where
@@ -41,19 +42,10 @@ module _ (s : List ℕ) where
   onward (stood next r l st) f = f next r l st
 
   number-stands : (at v : ℕ) (ps : List Piece) (e : ℕ) → 0 < at → Stand s at (num v ∷ ps) e → Then (λ next. fieldAt s at ≡ field v next) ps e
-  number-stands at v ps e l (next, d, rest) = stood next (field-took s at v next l d) (omega (arith, forward s at v next d)) rest
+  number-stands at v ps e l st = let (next, r, p, rest) = field-stands s at v ps e l st in stood next r p rest
 
-  two-read : (at t b : ℕ) (ps : List Piece) (e : ℕ) → 0 < at → Stand s at (num t ∷ num b ∷ ps) e
-      → Then (λ next. operandAt s at ≡ record { tag = t; bits = b; next = next }) ps e
-  unfolding operandAt
-  two-read at t b ps e l st =
-      onward (number-stands at t (num b ∷ ps) e l st)
-      (λ m r p rest. onward (number-stands m b ps e p rest)
-      (λ next q o more. stood next (rw (r, q)) o more))
-
-  operand-stands : (at : ℕ) (x : Operand) (ps : List Piece) (e : ℕ) → 0 < at → Stand s at (W.operand x ++ ps) e → Then (λ next. operandAt s at ≡ asRead x next) ps e
-  operand-stands at (variable x) ps e l st = two-read at 0 x ps e l st
-  operand-stands at (literal v) ps e l st = two-read at (tag (v .kind)) (v .bits) ps e l st
+  operand-there : (at : ℕ) (x : Operand) (ps : List Piece) (e : ℕ) → 0 < at → Stand s at (W.operand x ++ ps) e → Then (λ next. operandAt s at ≡ asRead x next) ps e
+  operand-there at x ps e l st = let (next, r, p, rest) = operand-stands s at x ps e l st in stood next r p rest
 
   slot-stands : (at : ℕ) (x : Slot) (ps : List Piece) (e : ℕ) → 0 < at → Stand s at (W.slot x ++ ps) e
       → Then (λ next. slotAt s at ≡ record { variable = x .var; size = x .size; next = next }) ps e
@@ -70,7 +62,7 @@ module _ (s : List ℕ) where
   more-read at x next l r = rw (r, lt-leb 256 x l, add-one)
 
   variable-stands : (at : ℕ) (o : Option ℕ) (ps : List Piece) (e : ℕ) → 0 < at → VariableFits o → Stand s at (W.maybe W.number o ++ ps) e
-      → Then (λ next. optionalVariable s at ≡ field (word o) next) ps e
+      → Then (λ next. optionalVariable s at ≡ field (variableOut o) next) ps e
   unfolding optionalVariable
   variable-stands at none ps e l f st = onward (number-stands at 0 ps e l st) (λ next r p rest. stood next (rw r) p rest)
   variable-stands at (some x) ps e l f st =
@@ -78,12 +70,12 @@ module _ (s : List ℕ) where
       (λ m r p rest. onward (number-stands m x ps e p rest)
       (λ next q o more. stood next (rw r (more-read m x next f q)) o more))
 
-  variable-last : (at : ℕ) (o : Option ℕ) (e : ℕ) → 0 < at → VariableFits o → Stand s at (W.maybe W.number o) e → Then (λ next. optionalVariable s at ≡ field (word o) next) [] e
+  variable-last : (at : ℕ) (o : Option ℕ) (e : ℕ) → 0 < at → VariableFits o → Stand s at (W.maybe W.number o) e → Then (λ next. optionalVariable s at ≡ field (variableOut o) next) [] e
   variable-last at none e l f st = variable-stands at none [] e l f st
   variable-last at (some x) e l f st = variable-stands at (some x) [] e l f st
 
   to-stands : (at : ℕ) (d : Option Declared) (ps : List Piece) (e : ℕ) → 0 < at → VariableFits (toOf d) → Stand s at (W.maybe W.declared d ++ ps) e
-      → Then (λ next. optionalTo s at ≡ field (word (toOf d)) next) ps e
+      → Then (λ next. optionalTo s at ≡ field (variableOut (toOf d)) next) ps e
   unfolding optionalTo toOf
   to-stands at none ps e l f st = onward (variable-stands at none ps e l tt st) (λ next r p rest. stood next (rw r) p rest)
   to-stands at (some d) ps e l f st =
@@ -100,7 +92,7 @@ module _ (s : List ℕ) where
   context-stands at none ps e l st = onward (number-stands at 0 ps e l st) (λ next r p rest. stood next (0, rw r, refl) p rest)
   context-stands at (some o) ps e l st =
       onward (number-stands at 1 (W.operand o ++ ps) e l st)
-      (λ m r p rest. onward (operand-stands m o ps e p rest)
+      (λ m r p rest. onward (operand-there m o ps e p rest)
       (λ next q a more. stood next (m, rw (r, q, read-next o next), ((λ z. omega arith), (next, (q, a)))) a more))
 
   -- ---- one item after another
@@ -110,7 +102,7 @@ module _ (s : List ℕ) where
   unfolding operandsSkipped
   operands-stand at [] ps e l st = stood at (refl, tt) l st
   operands-stand at (o ∷ os) ps e l st =
-      onward (operand-stands at o (W.each W.operand os ++ ps) e l (rw append-assoc at st))
+      onward (operand-there at o (W.each W.operand os ++ ps) e l (rw append-assoc at st))
       (λ m r p rest. onward (operands-stand m os ps e p rest)
       (λ next q a more. stood next (ap (λ (x : code.Operand). operandsSkipped s (length os) (x .next)) r ∙ ap (operandsSkipped s (length os)) (read-next o m) ∙ q .0, (m, (r, p), q .1)) a more))
 
@@ -158,11 +150,11 @@ module _ (s : List ℕ) where
   past-zero n l e = omega arith
 
   call-found : (at : ℕ) (to : Option Declared) (context : Option Operand) (f : ℕ) (os : List Operand) (returns : Option ℕ) (a start b c d g n : ℕ)
-      → optionalTo s at ≡ field (word (toOf to)) a → optionalOperand s a ≡ record { start = start; next = b } → fieldAt s b ≡ field f c → fieldAt s c ≡ field (length os) d
-      → operandsSkipped s (length os) d ≡ g → optionalVariable s g ≡ field (word returns) n → ContextRead s start context → OperandsRead s d os → 0 < n
+      → optionalTo s at ≡ field (variableOut (toOf to)) a → optionalOperand s a ≡ record { start = start; next = b } → fieldAt s b ≡ field f c → fieldAt s c ≡ field (length os) d
+      → operandsSkipped s (length os) d ≡ g → optionalVariable s g ≡ field (variableOut returns) n → ContextRead s start context → OperandsRead s d os → 0 < n
       → CallRead s (callAt s at) (callingOf to context f os returns)
   call-found at to context f os returns a start b c d g n r₁ r₂ r₃ r₄ r₅ r₆ ctx args l =
-      rw (call-read at (field (word (toOf to)) a) (record { start = start; next = b }) (field f c) (field (length os) d) g (field (word returns) n) r₁ r₂ r₃ r₄ r₅ r₆)
+      rw (call-read at (field (variableOut (toOf to)) a) (record { start = start; next = b }) (field f c) (field (length os) d) g (field (variableOut returns) n) r₁ r₂ r₃ r₄ r₅ r₆)
       (record { to = refl; context = ctx; callee = refl; given = refl; arguments = args; returns = refl; there = past-zero n l })
 
   pub call-stands : (at : ℕ) (to : Option Declared) (context : Option Operand) (f : ℕ) (os : List Operand) (returns : Option ℕ) (e : ℕ) → 0 < at → VariableFits (toOf to) → VariableFits returns

@@ -3,7 +3,7 @@ use Prim.Native.Nat.{ℕ, zero, suc, _+_, _*_, _<_, _≤_}
 use native.Mathlib.Omega.{arith}
 use mathlib.Core.Bool.{Bool, true, false}
 use mathlib.Core.Path.{_≡_, refl, sym, ap, ap₂, _∙_, subst, subst₂, fun-ext}
-use mathlib.Core.List.{List, [], _∷_, map}
+use mathlib.Core.List.{List, [], _∷_}
 use lib.ListN.{length, getD, replicate, length-replicate}
 use lib.Dec.{ltb, eqb}
 use borrow.Author.Tests.{eq-eqb, ne-eqb, eqb-true, eqb-false}
@@ -12,14 +12,15 @@ use Rattle.value.specs.Value.{Value, tag}
 use Rattle.image.specs.Program.{Program, Function, functionAt, placeOf}
 use Rattle.image.specs.Written.{flagNumber}
 use Rattle.memory.specs.Memory.{Memory}
-use Rattle.memory.specs.Stored.{greatestOf, storedValue}
+use Rattle.memory.specs.Stored.{storedValue}
 use Rattle.memory.specs.Tables.{Tables, storedOk, variableOk}
 use Rattle.memory.specs.View.{view, variablesIn}
 use Rattle.memory.specs.declared.Place.the-variants as place
 use Rattle.memory.specs.declared.Moved.the-variants as moved
 use Rattle.memory.proofs.Every.{by-test}
 use Rattle.memory.proofs.Facts.{Sound}
-use Rattle.machine.specs.Machine.{Vars, Machine, unset, setTo, allGood, setValues, setStarted, asNumber, makeSlots, start}
+use Rattle.memory.proofs.Stored.{stored-none}
+use Rattle.machine.specs.Machine.{Vars, Machine, unset, setTo, allGood, setValues, setStarted, makeSlots, start}
 use Rattle.machine.specs.Believed.{believed}
 use Rattle.machine.proofs.Values.{Good}
 use Rattle.instruction.specs.Variables.{found, setVariable}
@@ -28,10 +29,11 @@ use Rattle.instruction.specs.declared.field.Field.{Field}
 use Rattle.instruction.specs.declared.variables.Found.{Found}
 use Rattle.instruction.specs.declared.step.Progress.the-variants as progress
 use Rattle.instruction.proofs.Values.{Variables, variable-set, variables-kept}
+use Rattle.instruction.specs.Storage.{unstepped}
 use Rattle.calls.specs.Fields.{calleeAt, placeIn, entryOf}
 use Rattle.calls.specs.Variables.{slotsPointed}
-use Rattle.calls.specs.Code.{entered, slotsMadeOf, unchanged}
-use Rattle.calls.specs.Begin.{valuesSet, flaggedSet, startedSet, variablesSet, ranAt, begunIn, begunOf}
+use Rattle.calls.specs.Code.{entered, slotsMadeOf}
+use Rattle.calls.specs.Begin.{valuesSet, flaggedSet, startedSet, variablesSet, ranAt, begunIn, begunOf, tagsOf, bitsOf}
 use Rattle.calls.specs.declared.fields.Callee.{Callee}
 use Rattle.calls.proofs.Rooms.{room-given}
 use Rattle.calls.proofs.SlotsAgree.{pointed, slotsNumber, slots-refused, slots-made}
@@ -46,22 +48,11 @@ pub record Shows (vars : List ℕ) (vs : Vars) : Type 0 where
   pub good : Variables vars
   pub shown : variablesIn vars ≡ vs
 
--- the host's values, as they are lent
-abbrev pub tagsOf : List Value → List ℕ
-tagsOf gs = map (λ g. tag (g .kind)) gs
-
-abbrev pub bitsOf : List Value → List ℕ
-bitsOf gs = map (λ g. g .bits) gs
-
 abbrev pub AllGood : List Value → Type 0
 AllGood [] = Unit {0}
 AllGood (g ∷ gs) = Good g × AllGood gs
 
 -- ---- the variables
-
--- one set, then the rest
-shows-set : (vars : List ℕ) → Variables vars → (x : ℕ) → x < 256 → (v : Value) → Good v → Shows (setVariable vars x (found (tag (v .kind)) (v .bits))) (setTo (variablesIn vars) x v)
-shows-set vars good x l v g = record { good = variables-kept vars good x l v g; shown = variable-set vars good x l v }
 
 zeros : (n k : ℕ) → _≡_ {A = ℕ} (getD (replicate n 0) k 0) 0
 zeros zero k = refl
@@ -70,10 +61,10 @@ zeros (suc n) (suc k) = zeros n k
 
 -- "Start clears all variables"
 cleared-shown : (n : ℕ) → n ≡ 512 → Shows (replicate n 0) unset
-unfolding variablesIn storedValue variableOk storedOk greatestOf tag
+unfolding variablesIn variableOk storedOk
 cleared-shown n e = record {
   good = record { counted = length-replicate n 0 ∙ e; each = λ x l. ap₂ storedOk (zeros n (x * 2)) (zeros n (x * 2 + 1)) };
-  shown = fun-ext (λ (x : ℕ). ap₂ storedValue (zeros n (x * 2)) (zeros n (x * 2 + 1)));
+  shown = fun-ext (λ (x : ℕ). ap₂ storedValue (zeros n (x * 2)) (zeros n (x * 2 + 1)) ∙ stored-none 0);
 }
 
 -- "sets parameters in order"
@@ -140,7 +131,7 @@ module _ (s : List ℕ) (f : Callee) (F : Function) (callee : CalleeRead s f F) 
 
 -- "A refusal leaves state and lent buffers untouched"; else the tables after are sound, run, and show the believed machine's state
 pub data StartAgrees (t : Tables) (vars : List ℕ) : Stepped → Answer (Machine Memory) → Type 0 where
-  start-refused : (n : ℕ) → StartAgrees t vars (unchanged t vars n) (refused n)
+  start-refused : (n : ℕ) → StartAgrees t vars (unstepped t vars n) (refused n)
   start-went : (after : Tables) (vs : List ℕ) → Sound after → Variables vs → after .registers .running ≡ 1 → after .registers .next ≤ 4096 → (AreBytes (t .store) → AreBytes (after .store))
       → StartAgrees t vars
       (stepped (progress.Next (after .registers)) (after .store) (after .frames) (after .bounds) (after .pointers) vs)
@@ -208,7 +199,7 @@ same-start {t} {vars} {w} {w′} {b} e a = subst (λ (x : Stepped). StartAgrees 
 -- A start of a machine that is idle, of a function that there is, with as many values as it takes, none a Char that is no scalar value.
 pub start-agrees : (P : Program) (s labels functions : List ℕ) (t : Tables) (vars : List ℕ) (place number : ℕ) (vs : Vars) (context : Value) (gs : List Value)
     → Sound t → length vars ≡ 512
-    → ltb number (length (P .functions)) ≡ true → eqb (length gs) (length (functionAt P number .parameters) + asNumber (functionAt P number .returnPointer)) ≡ true → allGood (context ∷ gs) ≡ true
+    → ltb number (length (P .functions)) ≡ true → eqb (length gs) (length (functionAt P number .parameters) + flagNumber (functionAt P number .returnPointer)) ≡ true → allGood (context ∷ gs) ≡ true
     → Good context → AllGood gs
     → CalleeRead s (calleeAt s (placeIn functions number)) (functionAt P number) → FunctionFits (functionAt P number)
     → functionAt P number .entry < length labels → getD labels (functionAt P number .entry) 0 ≡ placeOf P (functionAt P number .entry) → placeOf P (functionAt P number .entry) ≤ 4096

@@ -9,16 +9,18 @@ use lib.ListN.{length}
 use borrow.Author.Tests.{eq-eqb, ne-eqb}
 use Rattle.value.specs.Answer.{Answer, ok, refused, _>>=_}
 use Rattle.value.specs.Value.{Value, value, tag, pointer}
+use Rattle.value.proofs.Tags.{tag-some}
 use Rattle.image.specs.Program.{Operand, variable, literal, Slot, Function}
 use Rattle.image.specs.Written.{flagNumber}
 use Rattle.memory.specs.View.{variablesIn}
+use Rattle.memory.proofs.Exists.{variableOut}
 use Rattle.machine.specs.Machine.{Vars, setTo, valueOf, setFrom, asVariable, setArguments}
 use Rattle.machine.proofs.Values.{Keeps, kept, no-answer, Good, pointer-good}
 use Rattle.instruction.specs.Decode.{field, fieldAt, operandAt}
 use Rattle.instruction.specs.Compute.{foundOf}
 use Rattle.instruction.specs.Variables.{found, setVariable, readVariable, evaluated}
 use Rattle.instruction.proofs.Decoded.{asRead}
-use Rattle.instruction.proofs.Values.{Variables, Fits, tag-some, operand-found, operand-good, variable-set, variables-kept}
+use Rattle.instruction.proofs.Values.{Variables, Fits, operand-found, operand-good, variable-set, variables-kept}
 use Rattle.calls.specs.Variables.{slotsPointed, foundSet, argumentsSet, contextSet, pointerSet, contextOn, pointerOn}
 use Rattle.calls.specs.declared.fields.Slot as code
 use Rattle.calls.specs.declared.fields.CallFields.{CallFields}
@@ -120,11 +122,6 @@ arguments-alike s (x ∷ xs) (o ∷ os) p a vars good (next, r, rs) (f, fs) (aft
 
 -- ---- the return pointer and the context
 
--- a variable + 1, or 0 for none
-abbrev pub word : Option ℕ → ℕ
-word none = 0
-word (some x) = suc x
-
 abbrev pub VariableFits : Option ℕ → Type 0
 VariableFits none = Unit {0}
 VariableFits (some x) = x < 256
@@ -147,7 +144,7 @@ module _ (s : List ℕ) (call : CallFields) (f : Callee) (vars : List ℕ) (good
   unfolding evaluated
   variable-alike y h = operand-alike vars good x l (variable y) 1 (omega arith) h
 
-  pointer-alike : (p : Option ℕ) → f .result ≡ x → call .pointer ≡ word p → VariableFits p → Alike (pointerSet call f vars) (setFrom (variablesIn vars) x (asVariable p))
+  pointer-alike : (p : Option ℕ) → f .result ≡ x → call .pointer ≡ variableOut p → VariableFits p → Alike (pointerSet call f vars) (setFrom (variablesIn vars) x (asVariable p))
   unfolding pointerSet setFrom asVariable
   pointer-alike none d e h = rw e (same-values vars good)
   pointer-alike (some y) d e h = rw (d, e, ne-eqb (suc y) 0 (λ z. omega arith), sub-one) (variable-alike y h)
@@ -190,12 +187,12 @@ pub record FunctionFits (F : Function) : Type 0 where
 
 -- a Call that is read with these fields
 pub record CallRead (s : List ℕ) (call : CallFields) (c : Calling) : Type 0 where
-  pub to : call .to ≡ word (c .to)
+  pub to : call .to ≡ variableOut (c .to)
   pub context : ContextRead s (call .context) (c .context)
   pub callee : call .callee ≡ c .function
   pub given : call .given ≡ length (c .arguments)
   pub arguments : OperandsRead s (call .arguments) (c .arguments)
-  pub returns : call .pointer ≡ word (c .returns)
+  pub returns : call .pointer ≡ variableOut (c .returns)
   pub there : call .next ≡ 0 → ⊥
 
 pub record CallFits (c : Calling) : Type 0 where

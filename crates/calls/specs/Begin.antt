@@ -1,9 +1,10 @@
 -- What a start does to registers and tables, once the checks of its entry are made.
 use Prim.Native.Nat.{ℕ, zero, suc}
-use mathlib.Core.List.{List, [], _∷_}
+use mathlib.Core.List.{List, [], _∷_, map}
 use lib.ListN.{length, replicate}
 use lib.Dec.{eqb}
 use Rattle.value.specs.Answer.{pick}
+use Rattle.value.specs.Value.{Value, tag}
 use Rattle.memory.specs.Tables.{Tables, registers}
 use Rattle.memory.specs.declared.Moved.{Moved}
 use Rattle.memory.specs.declared.Moved.the-variants as moved
@@ -15,11 +16,19 @@ use Rattle.instruction.specs.Variables.{found, setVariable}
 use Rattle.instruction.specs.declared.variables.Found.{Found}
 use Rattle.instruction.specs.declared.step.Progress.{Progress}
 use Rattle.instruction.specs.declared.step.Progress.the-variants as progress
+use Rattle.instruction.specs.Storage.{unstepped}
 use Rattle.calls.specs.Fields.{calleeAt, placeIn, entryOf}
 use Rattle.calls.specs.Room.{roomInOf}
 use Rattle.calls.specs.Variables.{slotsPointed}
-use Rattle.calls.specs.Code.{Entered, slotsMadeOf, unchanged}
+use Rattle.calls.specs.Code.{Entered, slotsMadeOf}
 use Rattle.calls.specs.declared.fields.Callee.{Callee}
+
+-- the host's values, as they are lent
+abbrev pub tagsOf : List Value → List ℕ
+tagsOf gs = map (λ g. tag (g .kind)) gs
+
+abbrev pub bitsOf : List Value → List ℕ
+bitsOf gs = map (λ g. g .bits) gs
 
 -- "sets parameters in order": n of them, from values as far as there are any
 unfoldable pub valuesSet : (image : List ℕ) → (n at : ℕ) → (tags bits vars : List ℕ) → List ℕ
@@ -58,11 +67,11 @@ begunIn t vars s k f context ts bs =
     let no = roomInOf (t .registers) s f (length (t .store)) (t .frames) (t .bounds) (length (t .pointers)) in
     pick (eqb no 0)
     (withSlots k (slotsMadeOf s (f .count) (f .slots) t) (variablesSet s f context ts bs (t .registers .pointers) vars))
-    (unchanged t vars no)
+    (unstepped t vars no)
 
 abbrev pub begunAt : Tables → (vars image : List ℕ) → Place → Callee → Found → (tags bits : List ℕ) → Stepped
 begunAt t vars s (place.At k) f context ts bs = begunIn t vars s k f context ts bs
-begunAt t vars s (place.Refused n) f context ts bs = unchanged t vars n
+begunAt t vars s (place.Refused n) f context ts bs = unstepped t vars n
 
 unfoldable pub begunOf : Tables → (vars image labels functions : List ℕ) → (number : ℕ) → (context : Found) → (tags bits : List ℕ) → Stepped
 begunOf t vars s labels functions number context ts bs =

@@ -15,6 +15,7 @@ use Rattle.memory.specs.declared.Place.the-variants as place
 use Rattle.instruction.specs.Code.{Stepped, stepped, withNext}
 use Rattle.instruction.specs.declared.step.Progress.{Progress}
 use Rattle.instruction.specs.declared.step.Progress.the-variants as progress
+use Rattle.instruction.specs.Storage.{unstepped}
 use Rattle.calls.specs.Fields.{slotAt, callAt, calleeAt, placeIn, entryOf}
 use Rattle.calls.specs.Room.{callRoomOf}
 use Rattle.calls.specs.Variables.{slotsOn}
@@ -63,14 +64,10 @@ unfoldable pub arrived : (place : ℕ) → Moved → Progress
 arrived k (moved.Done m) = progress.Next (withNext m k)
 arrived k (moved.Refused n) = progress.Refused n
 
--- refused, with every element as it stood
-abbrev pub unchanged : Tables → List ℕ → (number : ℕ) → Stepped
-unchanged t vars n = stepped (progress.Refused n) (t .store) (t .frames) (t .bounds) (t .pointers) vars
-
 -- the memory's part, after the variables'
 abbrev pub withVariables : Tables → List ℕ → (place : ℕ) → Answer (List ℕ) → Entered → Stepped
 withVariables t vars k (ok vs) e = stepped (arrived k (e .answer)) (e .store) (e .frames) (e .bounds) (e .pointers) vs
-withVariables t vars k (refused n) e = unchanged t vars n
+withVariables t vars k (refused n) e = unstepped t vars n
 
 unfoldable pub calledIn : Tables → (vars image : List ℕ) → (place : ℕ) → CallFields → Callee → Stepped
 calledIn t vars s k call f =
@@ -79,14 +76,14 @@ calledIn t vars s k call f =
     (withVariables t vars k
     (slotsOn s call f (f .count) (f .slots) (t .registers .pointers) vars)
     (enteredOf s (call .to) f t))
-    (unchanged t vars no)
+    (unstepped t vars no)
 
 abbrev pub calledAt : Tables → (vars image : List ℕ) → Place → CallFields → Callee → Stepped
 calledAt t vars s (place.At k) call f = calledIn t vars s k call f
-calledAt t vars s (place.Refused n) call f = unchanged t vars n
+calledAt t vars s (place.Refused n) call f = unstepped t vars n
 
 unfoldable pub calledOf : Tables → (vars image labels functions : List ℕ) → (at : ℕ) → Stepped
 calledOf t vars s labels functions at =
     let call = callAt s at in
     let f = calleeAt s (placeIn functions (call .callee)) in
-    pick (eqb (call .next) 0) (unchanged t vars noInstruction) (calledAt t vars s (entryOf labels f) call f)
+    pick (eqb (call .next) 0) (unstepped t vars noInstruction) (calledAt t vars s (entryOf labels f) call f)

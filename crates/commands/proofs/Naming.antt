@@ -3,14 +3,14 @@ use Prim.Native.Nat.{ℕ, suc, _+_, _*_, _≤_, _<_, min}
 use native.Mathlib.Numerals.{add-one}
 use native.Mathlib.Omega.{arith}
 use mathlib.Core.Bool.{true, false}
-use mathlib.Core.Path.{_≡_, refl, sym, ap, ap₂, subst, _∙_}
-use mathlib.Core.List.{List, [], _∷_}
+use mathlib.Core.Path.{_≡_, sym, ap, ap₂, subst, _∙_}
+use mathlib.Core.List.{List, []}
 use lib.ListN.{length, getD, drop, List·getD-eq-default, drop-of-length-le}
 use lib.Seq.{drop-cons}
-use lib.Dec.{ltb}
 use borrow.Author.Tests.{lt-ltb, le-ltb}
 use Rattle.value.specs.Answer.{pick}
-use Rattle.words.specs.Words.{same, words}
+use Rattle.value.specs.Value.{sameBytes}
+use Rattle.words.specs.Words.{words}
 use Rattle.commands.specs.Parts.{good, bad, partAfter, endAfter, bytesAfter, tagsAfter, bitsAfter}
 use Rattle.commands.specs.Commands.{commandNames, pokeNames, placeOf, pokeRead, nameRead, hostRows, pokeRows, rows, sortOf, part₁, part₂, part₃, part₄, spotsAsked, Reads, lineReads}
 use Rattle.commands.specs.declared.Spot.{Spot}
@@ -18,14 +18,14 @@ use Rattle.commands.specs.declared.Asked.{Asked}
 
 module _ (w : List ℕ) (ns : List (List ℕ)) (i : ℕ) {whole : ℕ} (e : i + placeOf w (drop i ns) ≡ whole) where
   module _ (h : i < length ns) where
-    here : placeOf w (drop i ns) ≡ pick (same (getD ns i []) w) 0 (suc (placeOf w (drop (suc i) ns)))
+    here : placeOf w (drop i ns) ≡ pick (sameBytes (getD ns i []) w) 0 (suc (placeOf w (drop (suc i) ns)))
     unfolding placeOf
     here = ap (placeOf w) (drop-cons ns i [] h)
 
-    pub is-there : same (getD ns i []) w ≡ true → i ≡ whole
+    pub is-there : sameBytes (getD ns i []) w ≡ true → i ≡ whole
     is-there s = let z : placeOf w (drop i ns) ≡ 0 = here ∙ rw s in omega arith
 
-    pub is-not : same (getD ns i []) w ≡ false → i + 1 + placeOf w (drop (i + 1) ns) ≡ whole
+    pub is-not : sameBytes (getD ns i []) w ≡ false → i + 1 + placeOf w (drop (i + 1) ns) ≡ whole
     is-not s =
         let z : placeOf w (drop i ns) ≡ suc (placeOf w (drop (suc i) ns)) = here ∙ rw s in
         let y : placeOf w (drop (i + 1) ns) ≡ placeOf w (drop (suc i) ns) = ap (λ (k : ℕ). placeOf w (drop k ns)) (add-one i) in

@@ -2,20 +2,21 @@
 use Prim.Native.Nat.{ℕ, _+_, _-_, _*_, _^_, _≤_, _<_}
 use native.Mathlib.Decide.{decLe}
 use native.Mathlib.Omega.{arith}
-use mathlib.Core.Bool.{Bool, true, false, _&&_}
+use mathlib.Core.Bool.{Bool, true, false}
 use mathlib.Core.Path.{_≡_, refl, sym, ap, _∙_}
-use mathlib.Core.List.{List, [], _∷_}
+use mathlib.Core.List.{List, []}
 use lib.ListN.{length, getD, drop, List·getD-eq-default}
 use lib.Seq.{sets}
-use lib.Dec.{leb, eqb}
+use lib.Dec.{leb}
 use borrow.Author.Tests.{eq-eqb, ne-eqb, le-leb, lt-leb, leb-true}
 use Rattle.value.specs.Answer.{pick}
+use Rattle.value.specs.Value.{sameBytes}
 use Rattle.words.specs.Ascii.{ascii}
 use Rattle.words.specs.Number.{number, bounded, upTo}
 use Rattle.words.specs.Hex.{isHex, hexAnswer, hexBuffer}
-use Rattle.words.specs.Words.{same, words}
-use Rattle.words.specs.Kinds.{name, kinds, names, kindFrom, kindRead, bitsRead}
-use Rattle.words.specs.Pairs.{Said, valuesFrom}
+use Rattle.words.specs.Words.{words}
+use Rattle.words.specs.Kinds.{name, names, kindFrom, kindRead, bitsRead}
+use Rattle.words.specs.Pairs.{valuesFrom}
 use Rattle.words.specs.declared.Read.{Read}
 use Rattle.words.specs.declared.Read.the-variants as read
 use Rattle.words.specs.declared.HexRead.{HexRead}
@@ -23,7 +24,7 @@ use Rattle.words.specs.declared.HexRead.the-variants as hexRead
 use Rattle.words.specs.declared.Values.{Values}
 use Rattle.words.specs.declared.Values.the-variants as values
 use Rattle.words.proofs.Reading.{words-bound}
-use Rattle.commands.specs.Parts.{mosts, frameRead, varRead, partRead, good, bad, after, partAfter, endedAt, hexEnd, valuesEnd, endAfter, bytesAfter, tagsAfter, bitsAfter}
+use Rattle.commands.specs.Parts.{mosts, frameRead, varRead, partRead, good, bad, partAfter, endedAt, hexEnd, valuesEnd, endAfter, bytesAfter, tagsAfter, bitsAfter}
 use Rattle.commands.specs.declared.Spot.{Spot}
 
 -- ---- a word as a part
@@ -50,13 +51,13 @@ pub at-most : (most n : ℕ) (w : List ℕ) → upTo most w ≡ read.Number n �
 at-most most n w e = bounded-most most n (number w) e
 
 module _ (w : List ℕ) where
-  pub a-dash : same w (ascii "-") ≡ true → read.Number 0 ≡ varRead w
+  pub a-dash : sameBytes w (ascii "-") ≡ true → read.Number 0 ≡ varRead w
   a-dash e = rw e
 
-  pub a-var : (n : ℕ) → same w (ascii "-") ≡ false → upTo (2 ^ 64 - 2) w ≡ read.Number n → read.Number (n + 1) ≡ varRead w
+  pub a-var : (n : ℕ) → sameBytes w (ascii "-") ≡ false → upTo (2 ^ 64 - 2) w ≡ read.Number n → read.Number (n + 1) ≡ varRead w
   a-var n e h = rw (e, h)
 
-  pub no-var : same w (ascii "-") ≡ false → upTo (2 ^ 64 - 2) w ≡ read.Bad → read.Bad ≡ varRead w
+  pub no-var : sameBytes w (ascii "-") ≡ false → upTo (2 ^ 64 - 2) w ≡ read.Bad → read.Bad ≡ varRead w
   no-var e h = rw (e, h)
 
 module _ (s d b : ℕ) (w : List ℕ) {r : Read} where
@@ -107,7 +108,7 @@ either-bad true = refl
 either-bad false = refl
 
 no-word-read : (s d b : ℕ) → partRead s d b [] ≡ read.Bad
-unfolding partRead number kindRead kindFrom names name kinds same
+unfolding partRead number kindRead kindFrom names name sameBytes
 no-word-read s d b = simp either-bad
 
 no-hex-read : (room : ℕ) → hexAnswer [] room ≡ hexRead.Bad

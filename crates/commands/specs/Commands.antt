@@ -5,8 +5,9 @@ use mathlib.Core.List.{List, [], _∷_, _++_}
 use lib.ListN.{length, getD}
 use lib.Dec.{ltb}
 use Rattle.value.specs.Answer.{pick}
+use Rattle.value.specs.Value.{sameBytes}
 use Rattle.words.specs.Ascii.{ascii}
-use Rattle.words.specs.Words.{same, words}
+use Rattle.words.specs.Words.{words}
 use Rattle.commands.specs.Parts.{nothing, any, flag, variable, listRoom, size, budget, frame, var, kind, bits, hex, someValues, good, bad, partAfter, endAfter, bytesAfter, tagsAfter, bitsAfter}
 use Rattle.commands.specs.declared.Spot.{Spot}
 use Rattle.commands.specs.declared.Asked.{Asked}
@@ -25,7 +26,7 @@ unfoldable pub placeOf : List ℕ → List (List ℕ) → ℕ
 placeOf w [] = 0
 placeOf w (n ∷ ns) =
     let more = placeOf w ns in
-    pick (same n w) 0 (suc more)
+    pick (sameBytes n w) 0 (suc more)
 
 -- the command's number, and the place after its name
 unfoldable pub pokeRead : List (List ℕ) → Spot

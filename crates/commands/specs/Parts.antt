@@ -1,18 +1,17 @@
 -- The parts of a line after its command. "What cannot be read, a number out of the range named .., a word too many or too few" is a word of the line.
 use Prim.Native.Nat.{ℕ, _+_, _-_, _^_}
-use mathlib.Core.Path.{_≡_}
 use mathlib.Core.Bool.{Bool, _&&_}
 use mathlib.Core.List.{List, [], _∷_}
 use lib.ListN.{length, getD, drop}
 use lib.Seq.{sets}
 use lib.Dec.{leb, eqb}
 use Rattle.value.specs.Answer.{pick}
+use Rattle.value.specs.Value.{sameBytes}
 use Rattle.words.specs.Ascii.{ascii}
 use Rattle.words.specs.Number.{upTo}
 use Rattle.words.specs.Hex.{hexAnswer, hexBuffer}
-use Rattle.words.specs.Words.{same}
 use Rattle.words.specs.Kinds.{kindRead, bitsRead}
-use Rattle.words.specs.Pairs.{Said, valuesFrom}
+use Rattle.words.specs.Pairs.{valuesFrom}
 use Rattle.words.specs.declared.Read.{Read}
 use Rattle.words.specs.declared.Read.the-variants as read
 use Rattle.words.specs.declared.HexRead.{HexRead}
@@ -73,7 +72,7 @@ oneMore read.Bad = read.Bad
 
 -- "VAR `-` for none", as a frame's record holds it: 0 for none, else the number and one
 abbrev pub varRead : List ℕ → Read
-varRead w = pick (same w (ascii "-")) (read.Number 0) (oneMore (upTo (2 ^ 64 - 2) w))
+varRead w = pick (sameBytes w (ascii "-")) (read.Number 0) (oneMore (upTo (2 ^ 64 - 2) w))
 
 -- what a word says as a part of this sort; bits are those of the kind before them
 unfoldable pub partRead : (sort depth before : ℕ) → List ℕ → Read

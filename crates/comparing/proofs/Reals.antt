@@ -1,6 +1,6 @@
 -- The machine's comparisons of two floats are those of the numbers that their bits stand for, counted in units of 2 ^ -1074.
 use mathlib.Core.Path.{_≡_, refl, sym, ap, _∙_, subst}
-use mathlib.Core.Bool.{Bool, true, false, not, cond, _&&_, _||_, Bool·beq}
+use mathlib.Core.Bool.{Bool, true, false, not, cond, _&&_, _||_, Bool·beq, and-false}
 use Prim.Native.Nat.{ℕ, zero, suc, _+_, _-_, _*_, _/_, _%_, _^_, _<_, _≤_}
 use native.Mathlib.Nat.{mul-comm, mul-assoc, mul-right-comm, mul-pos, mul-lt-mul-of-pos-right, mul-le-mul-right, zero-mul, add-mul}
 use native.Mathlib.Omega.{arith}
@@ -162,10 +162,6 @@ twice : (t : Bool) → (t && t) ≡ t
 twice true = refl
 twice false = refl
 
-never : (t : Bool) → (t && false) ≡ false
-never true = refl
-never false = refl
-
 lt-signed : (s : Bool) (a : ℕ) (t : Bool) (b : ℕ) → below s a t b ≡ passes Believed.lt (integers (signOf s a) (signOf t b))
 unfolding integers passes
 lt-signed false a false b = lt-naturals a b
@@ -201,7 +197,7 @@ eq-signed false a true (suc b) = go (eqb a (suc b)) (eqb a 0) refl refl
     go true false e f = refl
     go false t e f = refl
 eq-signed true zero false b = one (eqb 0 b) ∙ eq-naturals 0 b
-eq-signed true (suc a) false b = ap (λ (t : Bool). eqb (suc a) b && (false || t)) (ne-eqb (suc a) 0 (λ p. omega arith)) ∙ never (eqb (suc a) b)
+eq-signed true (suc a) false b = ap (λ (t : Bool). eqb (suc a) b && (false || t)) (ne-eqb (suc a) 0 (λ p. omega arith)) ∙ and-false (eqb (suc a) b)
 eq-signed true zero true zero = eq-naturals 0 0
 eq-signed true zero true (suc b) = one (eqb 0 (suc b)) ∙ ne-eqb 0 (suc b) (λ p. omega arith)
 eq-signed true (suc a) true zero = one (eqb (suc a) 0) ∙ ne-eqb (suc a) 0 (λ p. omega arith)

@@ -1,13 +1,13 @@
 -- Of an image that was taken, for the layers above: where the items of its program stand, and which bounds they keep.
 -- Each statement is about the loader's answer `loadedFrom s` and the program P alone.
-use Prim.Native.Nat.{ℕ, zero, suc, _+_, _≤_, _<_}
+use Prim.Native.Nat.{ℕ, _+_, _≤_, _<_}
 use native.Mathlib.Omega.{arith}
 use mathlib.Core.Path.{_≡_, refl, sym, ap, subst, _∙_}
-use mathlib.Core.List.{List, [], _∷_, map}
-use lib.ListN.{length, getD, take, replicate, length-append, length-map, length-replicate}
+use mathlib.Core.List.{List, [], _∷_, map, flatten}
+use lib.ListN.{length, getD, replicate, length-append, length-map, length-replicate}
 use lib.Seq.{length-sets}
 use Rattle.image.specs.Parse.{took}
-use Rattle.image.specs.Program.{Program, Instruction, noFunction, functionAt, flatten, code, placeOf}
+use Rattle.image.specs.Program.{Program, Instruction, noFunction, functionAt, code, placeOf}
 use Rattle.image.specs.Image.{Image, image, programOf, loaded}
 use Rattle.image.specs.Written.{lengthAnd}
 use Rattle.image.specs.Written as W
@@ -22,6 +22,7 @@ use Rattle.image.proofs.Parts.{same-value, same-place}
 use Rattle.image.proofs.Spells.{alone, bytes-spells}
 use Rattle.decode.proofs.Taken.{image-took}
 use Rattle.decode.proofs.Leads.{each-at, instruction-at, function-at, constants-few, constant-at, label-at, code-length}
+use Rattle.machine.proofs.Kept.{flatten-front}
 
 -- ---- the image behind a loaded program
 
@@ -46,12 +47,6 @@ flat-total : (bs : List (List Instruction)) → length (flatten bs) ≡ total bs
 unfolding flatten total
 flat-total [] = refl
 flat-total (b ∷ bs) = length-append b (flatten bs) ∙ ap (λ (n : ℕ). length b + n) (flat-total bs)
-
-flat-before : (l : ℕ) (bs : List (List Instruction)) → length (flatten (take l bs)) ≤ length (flatten bs)
-unfolding flatten
-flat-before zero bs = omega arith
-flat-before (suc l) [] = omega arith
-flat-before (suc l) (b ∷ bs) = omega (arith, length-append b (flatten (take l bs)), length-append b (flatten bs), flat-before l bs)
 
 -- the loader's counts are the program's
 pub record Counted (l : Loaded) (P : Program) : Type 0 where
@@ -147,4 +142,4 @@ module _ (s : List ℕ) (bytes : AreBytes s) (P : Program) (e : ℕ) (h : loaded
   code-within = omega (arith, flat-total (P .blocks), within-limits .instructionCount)
 
   pub place-within : (l : ℕ) → placeOf P l ≤ 4096
-  place-within l = omega (arith, flat-before l (P .blocks), code-within)
+  place-within l = omega (arith, flatten-front l (P .blocks), code-within)

@@ -1,24 +1,23 @@
 -- Each entry of the loader's tables leads to the definition's item: every item of a list was read at the place that is kept of it.
 use Prim.Native.Nat.{ℕ, zero, suc, _+_, _-_, _≤_, _<_}
 use native.Mathlib.Omega.{arith}
-use mathlib.Core.Path.{_≡_, refl, sym, ap, ap₂, subst, _∙_}
-use mathlib.Core.List.{List, [], _∷_, _++_, map, map-append}
+use mathlib.Core.Path.{_≡_, refl, sym, ap, subst, _∙_}
+use mathlib.Core.List.{List, [], _∷_, _++_, map, map-append, flatten}
 use lib.ListN.{length, getD, take, drop, replicate, length-append, length-map, length-replicate, List·getD-append, List·getD-map}
 use lib.Seq.{sets-eq}
 use Rattle.value.specs.Refusal.{overLimit}
 use Rattle.image.specs.Parse.{took, Field, Placed, many, within, placed}
 use Rattle.image.specs.Fields.{atMost, bytes, listOf}
-use Rattle.image.specs.Program.{Instruction, noFunction, functionAt, flatten, code, placeOf}
+use Rattle.image.specs.Program.{Instruction, noFunction, functionAt, code, placeOf}
 use Rattle.image.specs.Image.{Counts, Image, constants, function, instruction, blocks, programOf}
 use Rattle.image.specs.Written as W
 use Rattle.image.specs.Limits.{Each, AreBytes}
-use Rattle.image.proofs.Parts.{same-value, same-place}
 use Rattle.image.proofs.Standing.{forward, stand-forward}
 use Rattle.image.proofs.Spells.{Spells, alone, upTo-spells, bytes-spells}
 use Rattle.image.proofs.Writes.{Counted, header-spells, function-spells, instruction-spells}
 use Rattle.image.proofs.Takes.{each-append}
-use Rattle.loader.specs.Tables.{ats, joined, starts, table, loadedOf}
-use Rattle.loader.proofs.Turn.{then-took, within-took, within-done, many-within}
+use Rattle.loader.specs.Tables.{ats, starts, table, loadedOf}
+use Rattle.loader.proofs.Turn.{then-took, within-took, within-done, many-within, placed-took}
 use Rattle.loader.proofs.Blocks.{many-length}
 use Rattle.decode.proofs.Taken.{Taken, constants-counted, functions-counted, blocks-counted}
 
@@ -44,12 +43,6 @@ pub record Forward {A : Type 0} (p : ℕ → Field A) : Type 0 where
 spelt-forward : {A : Type 0} (s : List ℕ) (p : ℕ → Field A) (w : A → List W.Piece) (ok : ℕ → A → Type 0) → ((left : ℕ) → Spells s [] (p left) w (ok left)) → Forward p
 spelt-forward s p w ok sp = record { on = λ left at a next h. stand-forward s at (w a) next (alone (sp left) at next a h .stands) }
 
-placed-took : {A : Type 0} (q : ℕ → Field A) (left at : ℕ) {x : Placed A} {m : ℕ} → placed (q left) at ≡ took x m → (q left at ≡ took (x .item) m) × (x .at ≡ at)
-placed-took {A} q left at {x} {m} h =
-    let (a, k, e, f) = then-took (q left at) (λ a m. took (record { at = at; item = a }) m) h in
-    let is = same-value f in
-    (e ∙ ap₂ took (ap (λ (y : Placed A). y .item) is) (same-place f), sym (ap (λ (y : Placed A). y .at) is))
-
 module _ {A : Type 0} (p : ℕ → Field A) (on : Forward p) (from : ℕ) where
   within-each : (size : Placed A → ℕ) (left n at : ℕ) (xs : List (Placed A)) (e : ℕ) → from ≤ at
       → within size left n (λ left. placed (p left)) at ≡ took xs e → Each (Read p from) xs × (from ≤ e)
@@ -73,11 +66,11 @@ module _ (s : List ℕ) (ok : AreBytes s) where
   instruction-forward n = spelt-forward s (λ left. instruction s n) W.instruction _ (λ left. instruction-spells ok n)
 
   blocks-each : (n : Counts) (from left m at : ℕ) (bs : List (List (Placed Instruction))) (e : ℕ) → from ≤ at
-      → within length left m (λ left. listOf s left (placed (instruction s n))) at ≡ took bs e → Each (Read (λ left. instruction s n) from) (joined bs) × (length (joined bs) ≤ left)
-  unfolding listOf Each
+      → within length left m (λ left. listOf s left (placed (instruction s n))) at ≡ took bs e → Each (Read (λ left. instruction s n) from) (flatten bs) × (length (flatten bs) ≤ left)
+  unfolding listOf Each flatten
   blocks-each n from left zero at bs e le h =
       let is = within-done length (λ left. listOf s left (placed (instruction s n))) left at h .0 in
-      (subst (λ (l : List (List (Placed Instruction))). Each (Read (λ left. instruction s n) from) (joined l)) (sym is) tt, omega (arith, ap (λ (l : List (List (Placed Instruction))). length (joined l)) is))
+      (subst (λ (l : List (List (Placed Instruction))). Each (Read (λ left. instruction s n) from) (flatten l)) (sym is) tt, omega (arith, ap (λ (l : List (List (Placed Instruction))). length (flatten l)) is))
   blocks-each n from left (suc m) at bs e le h =
       let (b, at′, more-bs, e₁, e₂, is) = within-took length (λ left. listOf s left (placed (instruction s n))) left m at h in
       let (k, m′, e₃, e₄) = then-took (atMost s left at) (λ k m. many k (placed (instruction s n)) m) e₁ in
@@ -85,8 +78,8 @@ module _ (s : List ℕ) (ok : AreBytes s) where
       let (here, on) = many-each (instruction s n) (instruction-forward n) from k m′ b at′ (omega (arith, stand-forward s at (W.number k) m′ (counted .stands))) e₄ in
       let (g, small) = blocks-each n from (left - length b) m at′ more-bs e on e₂ in
       let size = many-length (placed (instruction s n)) k m′ e₄ in (
-        subst (λ (l : List (List (Placed Instruction))). Each (Read (λ left. instruction s n) from) (joined l)) (sym is) (each-append _ b (joined more-bs) here g),
-        omega (arith, counted .fits, ap (λ (l : List (List (Placed Instruction))). length (joined l)) is, length-append b (joined more-bs)),
+        subst (λ (l : List (List (Placed Instruction))). Each (Read (λ left. instruction s n) from) (flatten l)) (sym is) (each-append _ b (flatten more-bs) here g),
+        omega (arith, counted .fits, ap (λ (l : List (List (Placed Instruction))). length (flatten l)) is, length-append b (flatten more-bs)),
       )
 
 -- ---- the tables
@@ -119,10 +112,10 @@ module _ {A : Type 0} (p : ℕ → Field A) (from size : ℕ) (xs : List (Placed
           ∙ any-default (ats xs) k 0 (d .at) (omega (arith, length-map xs (λ x. x .at))) ∙ List·getD-map (λ x. x .at) xs k d
 
 -- the flat list of instructions, and where a label leads in it
-flat-items : (bs : List (List (Placed Instruction))) → map (λ x. x .item) (joined bs) ≡ flatten (map (λ b. map (λ x. x .item) b) bs)
+flat-items : (bs : List (List (Placed Instruction))) → map (λ x. x .item) (flatten bs) ≡ flatten (map (λ b. map (λ x. x .item) b) bs)
 unfolding flatten
 flat-items [] = refl
-flat-items (b ∷ bs) = map-append (λ x. x .item) b (joined bs) ∙ ap (λ (l : List Instruction). map (λ x. x .item) b ++ l) (flat-items bs)
+flat-items (b ∷ bs) = map-append (λ x. x .item) b (flatten bs) ∙ ap (λ (l : List Instruction). map (λ x. x .item) b ++ l) (flat-items bs)
 
 start-at : (total : ℕ) (bs : List (List (Placed Instruction))) (l : ℕ) → l < length bs
     → getD (starts total bs) l 0 ≡ total + length (flatten (take l (map (λ b. map (λ x. x .item) b) bs)))
@@ -156,22 +149,22 @@ module _ (s : List ℕ) (ok : AreBytes s) (i : Image) (n : Counts) (e : ℕ) (t 
   functions-read =
       many-each (function s n) (spelt-forward s (λ left. function s n) W.function _ (λ left. function-spells ok n)) 1 (n .functions) (t .at₂) (i .functions) (t .at₃) (constants-read .1) (t .its-functions)
 
-  blocks-read : Each (Read (λ left. instruction s n) 1) (joined (i .blocks)) × (length (joined (i .blocks)) ≤ 4096)
+  blocks-read : Each (Read (λ left. instruction s n) 1) (flatten (i .blocks)) × (length (flatten (i .blocks)) ≤ 4096)
   unfolding blocks
   blocks-read = blocks-each s ok n 1 4096 (n .blocks) (t .at₃) (i .blocks) e (functions-read .1) (t .its-blocks)
 
   -- how many instructions there are
-  pub code-length : length (joined (i .blocks)) ≡ length (code (programOf i))
+  pub code-length : length (flatten (i .blocks)) ≡ length (code (programOf i))
   unfolding programOf
-  code-length = sym (length-map (joined (i .blocks)) (λ x. x .item)) ∙ ap length (flat-items (i .blocks))
+  code-length = sym (length-map (flatten (i .blocks)) (λ x. x .item)) ∙ ap length (flat-items (i .blocks))
 
   -- the instruction at place k
   pub instruction-at : (d : Instruction) (k : ℕ) → k < length (code (programOf i))
       → Read (λ left. instruction s n) 1 (record { at = getD (loadedOf (took i e) .places) k 0; item = getD (code (programOf i)) k d })
   unfolding loadedOf programOf
   instruction-at d k lt =
-      subst (λ (l : List Instruction). Read (λ left. instruction s n) 1 (record { at = getD (table 4096 (ats (joined (i .blocks)))) k 0; item = getD l k d })) (flat-items (i .blocks))
-      (leads (λ left. instruction s n) 1 4096 (joined (i .blocks)) (blocks-read .0) (blocks-read .1) (record { at = 0; item = d }) k (omega (arith, code-length)))
+      subst (λ (l : List Instruction). Read (λ left. instruction s n) 1 (record { at = getD (table 4096 (ats (flatten (i .blocks)))) k 0; item = getD l k d })) (flat-items (i .blocks))
+      (leads (λ left. instruction s n) 1 4096 (flatten (i .blocks)) (blocks-read .0) (blocks-read .1) (record { at = 0; item = d }) k (omega (arith, code-length)))
 
   -- the function k
   pub function-at : (k : ℕ) → k < length (i .functions)

@@ -2,7 +2,7 @@
 use Prim.Native.Nat.{ℕ, _≤_, _<_}
 use native.Mathlib.Omega.{arith}
 use mathlib.Core.Path.{_≡_, sym, subst, _∙_}
-use mathlib.Core.List.{List}
+use mathlib.Core.List.{List, flatten}
 use lib.ListN.{length, getD, take, replicate, length-replicate}
 use lib.Seq.{length-sets, length-take-le, getD-take}
 use Rattle.image.specs.Parse.{Got, took, refused}
@@ -10,7 +10,7 @@ use Rattle.image.specs.Program.{Program, Instruction, functionAt, code, placeOf
 use Rattle.image.specs.Image.{Image, image, loaded}
 use Rattle.image.specs.Written as W
 use Rattle.image.specs.Standing.{Stands}
-use Rattle.loader.specs.Tables.{ats, joined, starts, loadedOf, loadedFrom}
+use Rattle.loader.specs.Tables.{ats, starts, loadedOf, loadedFrom}
 use Rattle.decode.proofs.Items.{counted, within-limits, code-within, instruction-stands, function-stands, label-leads}
 use Rattle.image.specs.Limits.{AreBytes}
 
@@ -23,7 +23,7 @@ record Sized (g : Got Image) : Type 0 where
 sized : (g : Got Image) → Sized g
 unfolding loadedOf
 sized (took i end) = record {
-  places = length-sets (replicate 4096 0) 0 (ats (joined (i .blocks))) ∙ length-replicate {A = ℕ} 4096 0;
+  places = length-sets (replicate 4096 0) 0 (ats (flatten (i .blocks))) ∙ length-replicate {A = ℕ} 4096 0;
   labels = length-sets (replicate 512 0) 0 (starts 0 (i .blocks)) ∙ length-replicate {A = ℕ} 512 0;
   functions = length-sets (replicate 64 0) 0 (ats (i .functions)) ∙ length-replicate {A = ℕ} 64 0;
 }

@@ -2,7 +2,7 @@
 use Prim.Native.Nat.{ℕ, suc, _+_, _*_, _≤_, _<_}
 use native.Mathlib.Omega.{arith}
 use mathlib.Core.Path.{_≡_, refl, sym, ap, ap₂, _∙_}
-use mathlib.Core.List.{List, [], _∷_, _++_, append-assoc}
+use mathlib.Core.List.{List, [], _∷_, _++_, append-assoc, append-nil}
 use lib.ListN.{length, getD, set, take, length-set}
 use lib.Seq.{take-all, take-suc, take-suc-set}
 use Rattle.image.specs.Parse.{Got, took, refused}
@@ -13,11 +13,7 @@ use Rattle.eval.specs.declared.entry.Extent.{Extent}
 
 extents-append : (s xs : List ℕ) (c : ℕ) → extentsAt s (xs ++ (c ∷ [])) ≡ extentsAt s xs ++ extent (number s c)
 unfolding extentsAt
-extents-append s [] c = nothing-after (extent (number s c))
-  where
-    nothing-after : (l : List ℕ) → l ++ [] ≡ l
-    nothing-after [] = refl
-    nothing-after (x ∷ xs) = ap (λ (r : List ℕ). x ∷ r) (nothing-after xs)
+extents-append s [] c = append-nil (extent (number s c))
 extents-append s (x ∷ xs) c = ap (λ (l : List ℕ). extent (number s x) ++ l) (extents-append s xs c) ∙ sym (append-assoc (extent (number s x)) (extentsAt s xs) (extent (number s c)))
 
 -- a constant's two words

@@ -2,7 +2,7 @@
 use Prim.Native.Nat.{ℕ, zero, suc, _-_, _≤_}
 use native.Mathlib.Omega.{arith}
 use mathlib.Core.Path.{_≡_, ap}
-use mathlib.Core.List.{List}
+use mathlib.Core.List.{List, flatten}
 use lib.ListN.{length, length-append}
 use borrow.Author.Tests.{leb-true}
 use Rattle.value.specs.Refusal.{overLimit}
@@ -10,7 +10,6 @@ use Rattle.image.specs.Parse.{took, Placed, many, within, placed}
 use Rattle.image.specs.Fields.{atMost, known, listOf}
 use Rattle.image.specs.Program.{Instruction}
 use Rattle.image.specs.Image.{Counts, Image, versions, header, instruction, blocks, image}
-use Rattle.loader.specs.Tables.{joined}
 use Rattle.loader.proofs.Turn.{then-took, within-took, within-done}
 use Rattle.loader.proofs.Blocks.{many-length}
 use Rattle.decode.proofs.Taken.{image-took, constants-counted, functions-counted, blocks-counted}
@@ -43,21 +42,21 @@ header-few s at n e h =
 
 -- "instructions (4,096 over all)"
 blocks-few : (s : List ℕ) (n : Counts) (left m at : ℕ) (bs : List (List (Placed Instruction))) (e : ℕ)
-    → within length left m (λ left. listOf s left (placed (instruction s n))) at ≡ took bs e → length (joined bs) ≤ left
-unfolding listOf
+    → within length left m (λ left. listOf s left (placed (instruction s n))) at ≡ took bs e → length (flatten bs) ≤ left
+unfolding listOf flatten
 blocks-few s n left zero at bs e h =
     let is = within-done length (λ left. listOf s left (placed (instruction s n))) left at h .0 in
-    omega (arith, ap (λ (l : List (List (Placed Instruction))). length (joined l)) is)
+    omega (arith, ap (λ (l : List (List (Placed Instruction))). length (flatten l)) is)
 blocks-few s n left (suc m) at bs e h =
     let (b, at′, more, e₁, e₂, is) = within-took length (λ left. listOf s left (placed (instruction s n))) left m at h in
     let (k, m′, e₃, e₄) = then-took (atMost s left at) (λ k m. many k (placed (instruction s n)) m) e₁ in
     let small = blocks-few s n (left - length b) m at′ more e e₂ in
     let fits = at-most s left at e₃ in
     let size = many-length (placed (instruction s n)) k m′ e₄ in
-    omega (arith, ap (λ (l : List (List (Placed Instruction))). length (joined l)) is, length-append b (joined more))
+    omega (arith, ap (λ (l : List (List (Placed Instruction))). length (flatten l)) is, length-append b (flatten more))
 
 pub record Limited (i : Image) : Type 0 where
-  pub instructions : length (joined (i .blocks)) ≤ 4096
+  pub instructions : length (flatten (i .blocks)) ≤ 4096
   pub blocks : length (i .blocks) ≤ 512
   pub functions : length (i .functions) ≤ 64
   pub constants : length (i .constants) ≤ 64

@@ -1,20 +1,12 @@
 -- The checks of a start, one by one.
 use Prim.Native.Nat.{ℕ, _-_, _≤_, _<_}
-use mathlib.Core.Bool.{Bool, true, false, _&&_}
+use mathlib.Core.Bool.{Bool, true, false}
 use mathlib.Core.Path.{_≡_, refl, sym, ap, _∙_}
 use mathlib.Core.List.{List}
 use lib.ListN.{length, getD, take, drop}
 use lib.Dec.{eqb}
 use native.Mathlib.Omega.{arith}
-use mathlib.Core.Option.{Option, none, some}
 use borrow.Author.Tests.{lt-ltb, le-ltb, eq-eqb, ne-eqb, le-leb, lt-leb}
-use Rattle.value.specs.Answer.{pick}
-use Rattle.value.specs.Value.{Kind}
-use Rattle.value.specs.Tags.{kindAt, holds}
-use Rattle.value.specs.Ir.{irOf, made}
-use Rattle.value.specs.declared.IrValue.{IrValue}
-use Rattle.value.specs.declared.Made.{Made}
-use Rattle.value.specs.declared.Made.the-variants as M
 use Rattle.value.specs.Refusal.{notSound, running, noFunction, wrongArguments, notScalar}
 use Rattle.image.specs.declared.field.Step.the-variants as step
 use Rattle.loader.specs.Tables.{loadedFrom}
@@ -30,7 +22,7 @@ use Rattle.calls.specs.declared.fields.Callee.{Callee}
 use Rattle.step.specs.Items.{Items}
 use Rattle.eval.specs.Loaded.{itemsIn}
 use Rattle.eval.specs.Entry.{entering, staying, steppedAs, steppedFrom}
-use Rattle.eval.specs.Start.{ofKind, isValue, valueAt, wantedOf, startRefusal, startLoaded, startEntered}
+use Rattle.eval.specs.Start.{isValue, valueAt, wantedOf, startRefusal, startLoaded, startEntered}
 use Rattle.eval.specs.declared.entry.Entered.{Entered}
 use Rattle.eval.specs.declared.entry.Entered.the-variants as entered
 
@@ -43,33 +35,6 @@ value-here ts bs k b h e = rw (lt-ltb k (length bs) h) e
 pub value-short : (ts bs : List ℕ) (k : ℕ) → length bs ≤ k → valueAt ts bs k ≡ false
 unfolding valueAt
 value-short ts bs k h = rw (le-ltb k (length bs) h) refl
-
--- what `from_bits` makes
-holding : (o : Option Kind) (b : ℕ) (v : IrValue) → made o b ≡ M.Value v → ofKind o b ≡ true
-unfolding made
-holding none b v e = absurd (let z : _≡_ {A = ℕ} 0 1 = cc in omega arith)
-holding (some k) b v e = by-test (holds k b) e
-  where
-    by-test : (c : Bool) → pick c (M.Value (irOf k b)) M.Nothing ≡ M.Value v → c ≡ true
-    by-test true e = refl
-    by-test false e = absurd (let z : _≡_ {A = ℕ} 0 1 = cc in omega arith)
-
-not-holding : (o : Option Kind) (b : ℕ) → made o b ≡ M.Nothing → ofKind o b ≡ false
-unfolding made
-not-holding none b e = refl
-not-holding (some k) b e = by-test (holds k b) e
-  where
-    by-test : (c : Bool) → pick c (M.Value (irOf k b)) M.Nothing ≡ M.Nothing → c ≡ false
-    by-test true e = absurd (let z : _≡_ {A = ℕ} 0 1 = cc in omega arith)
-    by-test false e = refl
-
-pub value-made : (t b : ℕ) (r : Made) {v : IrValue} → r ≡ made (kindAt t) b → r ≡ M.Value v → true ≡ isValue t b
-unfolding isValue
-value-made t b r {v} e is = sym (holding (kindAt t) b v (sym e ∙ is))
-
-pub none-made : (t b : ℕ) (r : Made) → r ≡ made (kindAt t) b → r ≡ M.Nothing → false ≡ isValue t b
-unfolding isValue
-none-made t b r e is = sym (not-holding (kindAt t) b (sym e ∙ is))
 
 -- ---- how many arguments
 

@@ -3,8 +3,8 @@ use Prim.Native.Nat.{ℕ, _+_, _*_, _-_, _≤_}
 use native.Mathlib.Omega.{arith}
 use mathlib.Core.Bool.{Bool, true, false}
 use mathlib.Core.Path.{_≡_, refl, sym, ap, _∙_}
-use mathlib.Core.List.{List, map}
-use lib.ListN.{length, take, drop, replicate, length-replicate, length-map}
+use mathlib.Core.List.{List, flatten}
+use lib.ListN.{length, take, drop, replicate, length-replicate}
 use lib.Dec.{eqb}
 use lib.Seq.{length-take-le, length-sets}
 use borrow.Author.Tests.{eq-eqb, ne-eqb}
@@ -12,7 +12,7 @@ use Rattle.value.specs.Answer.{pick}
 use Rattle.value.specs.Refusal.{notSound, idle}
 use Rattle.image.specs.Parse.{Got, took, refused}
 use Rattle.image.specs.Image.{Image, image}
-use Rattle.loader.specs.Tables.{ats, joined, starts, table, loadedOf, loadedFrom}
+use Rattle.loader.specs.Tables.{ats, starts, table, loadedOf, loadedFrom}
 use Rattle.decode.specs.Extents.{extentsAt}
 use Rattle.eval.proofs.Counts.{limited}
 use Rattle.memory.specs.declared.Registers.{Registers}
@@ -28,7 +28,7 @@ use Rattle.step.specs.Items.{Items, items}
 use Rattle.eval.specs.Loaded.{itemsIn, itemsOf}
 use Rattle.step.specs.Step.{steppedOf}
 use Rattle.run.specs.Run.{Running, running, resting, after, ranOf}
-use Rattle.eval.specs.Entry.{Entering, entering, staying, steppedAs, steppedFrom, asEntered, Bounded, runLoaded, runAfter, runEntered, stepLoaded, stepAfter, stepEntered, readOut, reading, readAs, readLoaded, readAfter, readEntered}
+use Rattle.eval.specs.Entry.{Entering, entering, staying, steppedAs, steppedFrom, asEntered, Bounded, runLoaded, runAfter, runEntered, stepLoaded, stepAfter, stepEntered, readOut, reading, readAs, readLoaded, readEntered}
 use Rattle.run.specs.declared.Ran.{Ran}
 use Rattle.run.specs.declared.Ran.the-variants as ran
 use Rattle.eval.specs.declared.entry.Entered.{Entered}
@@ -56,7 +56,7 @@ bounded s = by-image (image s) refl
     by-image (took i e) h =
         let few = limited s i e h in
         record {
-          instructions = omega (arith, few .instructions, table-length 4096 (ats (joined (i .blocks))));
+          instructions = omega (arith, few .instructions, table-length 4096 (ats (flatten (i .blocks))));
           blocks = omega (arith, few .blocks, table-length 512 (starts 0 (i .blocks)));
           functions = omega (arith, few .functions, table-length 64 (ats (i .functions)));
           constants = omega (arith, few .constants, table-length 64 (ats (i .constants)));

@@ -1,18 +1,17 @@
 -- The items of an image that was loaded, by the loader's tables.
 use Prim.Native.Nat.{ℕ}
 use mathlib.Core.List.{List}
-use lib.ListN.{take}
-use Rattle.image.specs.Parse.{Got, took, refused}
+use lib.ListN.{getD, take}
+use Rattle.image.specs.Parse.{Got}
 use Rattle.eval.specs.declared.entry.Extent.{Extent}
 use Rattle.loader.specs.Tables.{loadedFrom}
 use Rattle.loader.specs.declared.load.Loaded.{Loaded}
-use Rattle.decode.specs.Extents.{extentsAt}
+use Rattle.decode.specs.Extents.{extent, extentsAt}
 use Rattle.step.specs.Items.{Items, items}
 
--- a constant's bytes, by its length: none where it is refused
+-- a constant's start and length, as the code has them
 abbrev pub extentOf : Got ℕ → Extent
-extentOf (took count start) = record { start = start; count = count }
-extentOf (refused number place) = record { start = 0; count = 0 }
+extentOf g = record { start = getD (extent g) 0 0; count = getD (extent g) 1 0 }
 
 -- the items that the loader's tables name
 abbrev pub itemsIn : (bytes : List ℕ) → Loaded → Items

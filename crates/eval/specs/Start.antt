@@ -1,14 +1,12 @@
 -- What a start makes of an image, of registers and of tables: its checks in their order, and then the function begins.
 use Prim.Native.Nat.{ℕ, _-_}
-use mathlib.Core.Bool.{Bool, true, false, not, _&&_}
+use mathlib.Core.Bool.{Bool, false, not, _&&_}
 use mathlib.Core.List.{List}
-use mathlib.Core.Option.{Option, none, some}
 use lib.ListN.{length, getD}
 use lib.Dec.{ltb, leb, eqb}
 use Rattle.value.specs.Answer.{pick}
 use Rattle.value.specs.Refusal as Refusal
-use Rattle.value.specs.Value.{Kind}
-use Rattle.value.specs.Tags.{kindAt, holds}
+use Rattle.value.specs.Tags.{kindAt, held}
 use Rattle.image.specs.declared.field.Step.{Step}
 use Rattle.image.specs.declared.field.Step.the-variants as step
 use Rattle.loader.specs.Tables.{loadedFrom}
@@ -23,13 +21,9 @@ use Rattle.eval.specs.Loaded.{itemsOf}
 use Rattle.eval.specs.Entry.{Entering, staying, steppedFrom}
 use Rattle.eval.specs.declared.entry.Entered.the-variants as entered
 
-abbrev pub ofKind : Option Kind → (bits : ℕ) → Bool
-ofKind none b = false
-ofKind (some k) b = holds k b
-
 -- a tag and bits that are a value's
-unfoldable pub isValue : (tag bits : ℕ) → Bool
-isValue t b = ofKind (kindAt t) b
+abbrev pub isValue : (tag bits : ℕ) → Bool
+isValue t b = held (kindAt t) b
 
 -- the k-th, if there are bits for it
 unfoldable pub valueAt : (tags bits : List ℕ) → ℕ → Bool

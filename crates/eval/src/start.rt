@@ -4,7 +4,7 @@ ghost use lib.ListN.{length};
 ghost use Rattle.memory.specs.Tables.{tables, state, every};
 ghost use Rattle.eval.specs.Loaded.{itemsIn};
 ghost use Rattle.eval.specs.Entry.{entering, steppedAs, Bounded};
-ghost use Rattle.eval.specs.Start.{isValue, valueAt, wantedOf, startRefusal, startLoaded, startEntered};
+ghost use Rattle.eval.specs.Start.{valueAt, wantedOf, startRefusal, startLoaded, startEntered};
 use crate::entry::Entered;
 use calls::begin::begin;
 use calls::fields::Callee;
@@ -18,24 +18,13 @@ use loader::load::load;
 use memory::Registers;
 use soundness::sound;
 use value::IrValue;
-use value::Made;
 use value::refusal::NO_FUNCTION;
 use value::refusal::NOT_SCALAR;
 use value::refusal::NOT_SOUND;
 use value::refusal::RUNNING;
 use value::refusal::WRONG_ARGUMENTS;
 
-// Whether a tag and bits are a value's.
-fn is_value(tag: u64, bits: u64) -> bool
-    ensures { λ r. ⌜ r ≡ isValue tag bits ⌝ }
-{
-    match IrValue::from_bits(tag, bits) {
-        Made::Value(_) => true,
-        Made::Nothing => false,
-    }
-}
-
-// Whether all are; bits for each tag.
+// Whether all tags and bits are values'; bits for each tag.
 fn are_values(tags: &[u64], bits: &[u64]) -> bool
     ensures { λ r. ⌜ r ≡ every (length (now (tags .entry))) (valueAt (now (tags .entry)) (now (bits .entry))) ⌝ }
 {
@@ -44,7 +33,7 @@ fn are_values(tags: &[u64], bits: &[u64]) -> bool
         if bits.len() <= k {
             return false;
         }
-        if !is_value(tags[k], bits[k]) {
+        if !IrValue::fits(tags[k], bits[k]) {
             return false;
         }
         k += 1;
@@ -88,7 +77,7 @@ fn start_refusal(
     if !is_wanted(callee, tags.len()) {
         return WRONG_ARGUMENTS;
     }
-    if !is_value(context.tag, context.bits) {
+    if !IrValue::fits(context.tag, context.bits) {
         return NOT_SCALAR;
     }
     if !are_values(tags, bits) {

@@ -1,4 +1,4 @@
--- The steps of `bytesFrom`, and the bound that lets the code divide.
+-- The steps of `bytesFrom`, the bound that lets the code divide, and bytes that are stored or have no room.
 use Prim.Native.Nat.{ℕ, zero, suc, _+_, _-_, _*_, _/_, _%_, _^_, _<_, _≤_}
 use native.Mathlib.Nat.{pow-suc, mul-assoc, div-lt-iff-lt-mul}
 use native.Mathlib.Numerals.{sub-one, add-one}
@@ -8,8 +8,8 @@ use mathlib.Core.List.{List, [], _∷_}
 use lib.ListN.{length, set}
 use lib.Seq.{sets}
 use borrow.Author.Tests.{lt-ltb, le-ltb, le-leb, lt-leb}
-use Rattle.image.specs.Number.{bytesFrom, bytesOf}
-use Rattle.image.specs.Answer.{Wrote}
+use Rattle.image.specs.Number.{bytesFrom}
+use Rattle.image.specs.Answer.{Stored}
 use Rattle.image.specs.declared.number.Written.the-variants.{To, Full}
 
 pub last-byte : (spare v : ℕ) → v < 128 → bytesFrom spare v ≡ v ∷ []
@@ -41,14 +41,14 @@ write-more out at spare left p h e = rw add-one (ap (sets out at) (sym (more-byt
 pub write-last : (out : List ℕ) (at spare left : ℕ) {whole : List ℕ} → left < 128 → sets out at (bytesFrom spare left) ≡ whole → set out at left ≡ whole
 write-last out at spare left h e = ap (sets out at) (sym (last-byte spare left h)) ∙ e
 
-module _ (v start : ℕ) (before : List ℕ) where
-  pub wrote : (to : ℕ) (after : List ℕ) → start + length (bytesOf v) ≤ length before → to ≡ start + length (bytesOf v)
-      → after ≡ sets before start (bytesOf v) → Wrote v start before (To to) after
-  wrote to after room e f =
-      let b = le-leb (start + length (bytesOf v)) (length before) room in
+-- bytes that are stored, or have no room
+module _ (x : List ℕ) (start : ℕ) (before : List ℕ) where
+  pub stored : (to : ℕ) (after : List ℕ) → start + length x ≤ length before → to ≡ start + length x → after ≡ sets before start x → Stored x start before (To to) after
+  stored to after room e f =
+      let b = le-leb (start + length x) (length before) room in
       record { answer = rw b (ap To e); buffer = rw b f }
 
-  pub no-room : length before < start + length (bytesOf v) → Wrote v start before Full before
+  pub no-room : length before < start + length x → Stored x start before Full before
   no-room over =
-      let b = lt-leb (start + length (bytesOf v)) (length before) over in
+      let b = lt-leb (start + length x) (length before) over in
       record { answer = rw b; buffer = rw b }

@@ -3,23 +3,23 @@ use Prim.Native.Nat.{ℕ, zero, suc, _+_, _/_, _^_, _≤_, _<_}
 use native.Mathlib.Numerals.{sub-one}
 use native.Mathlib.Decide.{decLe}
 use native.Mathlib.Omega.{arith}
-use mathlib.Core.Bool.{Bool, true, false, _||_, _&&_}
+use mathlib.Core.Bool.{Bool, true, false}
 use mathlib.Core.Path.{_≡_, refl, sym, ap, subst, _∙_}
 use mathlib.Core.List.{List, [], _∷_, _++_, map, append-assoc, append-nil}
 use mathlib.Core.Option.{Option, none, some}
 use lib.ListN.{length, getD}
-use lib.Dec.{leb}
-use borrow.Author.Tests.{ltb-true, leb-true, le-leb}
+use borrow.Author.Tests.{ltb-true, le-leb}
 use Rattle.value.specs.Answer.{pick}
 use Rattle.value.specs.Refusal.{unknown, overLimit, beyondCount}
-use Rattle.value.specs.Value.{Kind, IrType, IntCmp, FloatCmp, value, kindOf, tag, isScalar}
+use Rattle.value.specs.Value.{Kind, IrType, IntCmp, FloatCmp, value, kindOf, tag}
 use Rattle.value.specs.Tags.{kinds, typeOfKind, holds, intCmps, floatCmps}
+use Rattle.value.proofs.Roundtrip.{scalar-small}
 use Rattle.image.specs.Parse.{Got, took, refused, Field, andThen, give, _>>=_, one}
 use Rattle.image.specs.Number.{number, bytesOf, bytesFrom}
 use Rattle.image.specs.Fields.{known, optional, listOf, bytes, atEnd}
 use Rattle.image.specs.Image.{Counts, types, versions, flags, items, flagsOf, mostParameters, header, literalOf, u32, size, type, var, label, constant, callee, operand, slot, branch, declared, table, instruction, function, loaded}
 use Rattle.image.specs.Program.{Program, Operand, literal, Slot, Branch, Declared, Item, Function, Instruction, Jump, Switch, Assign, ConstantAddress, Call, Return, IntCmp′, FloatCmp′, Add, Sub, Mul, Div, Mod, FDiv, Not, Negate, Offset, Initialize, Write, Read, Copy, Drop}
-use Rattle.image.specs.Written.{Piece, num, raw, each, counted, maybe, lengthAnd, flagNumber, itemNumber, typeNumber, intCmpNumber, floatCmpNumber, spelt, pieces, written}
+use Rattle.image.specs.Written.{Piece, num, raw, counted, maybe, lengthAnd, flagNumber, itemNumber, typeNumber, intCmpNumber, floatCmpNumber, spelt, pieces, written}
 use Rattle.image.specs.Written as W
 use Rattle.image.specs.Limits.{Each, UpTo, IfAny, Flagged, IsByte, IsSize, IsU32, IsVariable, IsLabel, IsConstant, IsFunction, IsOperand, IsSlot, IsBranch, IsDeclared, IsInstruction, IsFunctionItem, countsOf, WithinLimits, AreBytes}
 use Rattle.image.proofs.Takes.{Takes, each-append, then-takes, give-takes, same-pieces, map-takes, two-takes, three-takes, four-takes, five-takes, number-takes, such-takes, below-takes, upTo-takes, known-takes, tabled-takes, optional-takes, many-takes, list-takes, bytes-takes, within-takes}
@@ -82,16 +82,6 @@ few : (i : Item) → mostParameters i < 2 ^ 64
 few Item.function = omega arith
 few Item.constantItem = omega arith
 
-scalar-small : (b : ℕ) → isScalar b ≡ true → b < 2 ^ 64
-unfolding isScalar
-scalar-small b = by-tests (leb b 0xd7ff) (leb 0xe000 b) (leb b 0x10ffff) (leb-true b 0xd7ff) (leb-true b 0x10ffff)
-  where
-    by-tests : (l m h : Bool) → (l ≡ true → b ≤ 0xd7ff) → (h ≡ true → b ≤ 0x10ffff) → (l || (m && h)) ≡ true → b < 2 ^ 64
-    by-tests true m h p q e = omega (arith, p refl)
-    by-tests false true true p q e = omega (arith, q refl)
-    by-tests false true false p q e = let z : _≡_ {A = ℕ} 0 1 = cc in absurd (omega arith)
-    by-tests false false h p q e = let z : _≡_ {A = ℕ} 0 1 = cc in absurd (omega arith)
-
 holds-small : (k : Kind) (b : ℕ) → holds k b ≡ true → b < 2 ^ 64
 unfolding holds
 holds-small Kind.bool b h = omega (arith, ltb-true b 2 h)
@@ -105,7 +95,7 @@ holds-small Kind.i32 b h = omega (arith, ltb-true b (2 ^ 32) h)
 holds-small Kind.i64 b h = ltb-true b (2 ^ 64) h
 holds-small Kind.f32 b h = omega (arith, ltb-true b (2 ^ 32) h)
 holds-small Kind.f64 b h = ltb-true b (2 ^ 64) h
-holds-small Kind.char b h = scalar-small b h
+holds-small Kind.char b h = omega (arith, scalar-small b h)
 holds-small Kind.asn b h = omega (arith, ltb-true b (2 ^ 32) h)
 holds-small Kind.pointer b h = ltb-true b (2 ^ 64) h
 

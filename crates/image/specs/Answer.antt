@@ -9,7 +9,6 @@ use lib.Seq.{sets}
 use lib.Dec.{leb}
 use Rattle.value.specs.Answer.{pick}
 use Rattle.image.specs.Parse.{Got, took, refused, Field}
-use Rattle.image.specs.Number.{bytesOf}
 use Rattle.image.specs.Image.{types}
 use Rattle.image.specs.declared.number.Number.{Number}
 use Rattle.image.specs.declared.number.Number.the-variants.{Value, Bad}
@@ -53,7 +52,7 @@ isSome (some a) = true
 unfoldable pub isType : ℕ → Bool
 isType v = isSome (getD types v none)
 
--- a number's bytes stored from `start` on and the place after them, where they have room; else nothing
-pub record Wrote (v start : ℕ) (before : List ℕ) (r : Written) (after : List ℕ) : Type 0 where
-  pub answer : r ≡ pick (leb (start + length (bytesOf v)) (length before)) (To (start + length (bytesOf v))) Full
-  pub buffer : after ≡ pick (leb (start + length (bytesOf v)) (length before)) (sets before start (bytesOf v)) before
+-- bytes stored from `start` on and the place after them, where they have room; else nothing
+pub record Stored (bytes : List ℕ) (start : ℕ) (before : List ℕ) (r : Written) (after : List ℕ) : Type 0 where
+  pub answer : r ≡ pick (leb (start + length bytes) (length before)) (To (start + length bytes)) Full
+  pub buffer : after ≡ pick (leb (start + length bytes) (length before)) (sets before start bytes) before

@@ -1,7 +1,7 @@
 -- A program, as an image gives it: its constants, its functions and its blocks of instructions.
-use Prim.Native.Nat.{ℕ, _+_}
+use Prim.Native.Nat.{ℕ}
 use mathlib.Core.Bool.{Bool, false}
-use mathlib.Core.List.{List, [], _∷_, _++_}
+use mathlib.Core.List.{List, [], flatten}
 use mathlib.Core.Option.{Option}
 use lib.ListN.{length, getD, take}
 use Rattle.value.specs.Value.{Value, IrType, IntCmp, FloatCmp}
@@ -76,11 +76,6 @@ noFunction = record { item = Item.function; entry = 0; returnVar = 0; contextVar
 
 abbrev pub functionAt : Program → ℕ → Function
 functionAt P f = getD (P .functions) f noFunction
-
--- the flat list of instructions: a place is a position in it
-unfoldable pub flatten : List (List Instruction) → List Instruction
-flatten [] = []
-flatten (b ∷ bs) = b ++ flatten bs
 
 abbrev pub code : Program → List Instruction
 code P = flatten (P .blocks)

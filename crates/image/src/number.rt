@@ -2,7 +2,7 @@
 ghost use mathlib.Core.Path.{_≡_};
 ghost use lib.ListN.{length};
 ghost use Rattle.image.specs.Number.{number, bytesOf};
-ghost use Rattle.image.specs.Answer.{got, Wrote};
+ghost use Rattle.image.specs.Answer.{got, Stored};
 use value::refusal::BYTES_RUN_OUT;
 use value::refusal::MALFORMED;
 
@@ -76,7 +76,7 @@ pub fn length_of(v: u64) -> usize
 
 // Writes the number's bytes from `start` on, or nothing where they have no room.
 pub fn write_number(v: u64, out: &mut [u8], start: usize) -> Written
-    ensures { λ r. ⌜ Wrote v start (now (out .entry)) r (now (out .exit)) ⌝ }
+    ensures { λ r. ⌜ Stored (bytesOf v) start (now (out .entry)) r (now (out .exit)) ⌝ }
 {
     let n = length_of(v);
     if out.len() < n {

@@ -12,20 +12,20 @@ use borrow.Author.Tests.{le-leb, lt-leb, eq-eqb, ne-eqb}
 use lib.Seq.{sets-eq, length-take-le, take-at, drop-drop, take-add, take-append-seam, drop-append-add}
 use Rattle.image.specs.Parse.{Got, took, refused, andThen}
 use Rattle.image.specs.Number.{number, bytesOf}
-use Rattle.image.specs.Answer.{got, shape, after, orElse, Wrote}
+use Rattle.image.specs.Answer.{got, shape, after, orElse, Stored}
 use Rattle.image.specs.declared.number.Number.{Number}
 use Rattle.image.specs.declared.number.Number.the-variants.{Value, Bad}
 use Rattle.image.specs.declared.number.Written.{Written}
 use Rattle.image.specs.declared.field.Step.{Step}
 use Rattle.image.specs.Fields.{raw}
 use Rattle.image.proofs.Round.{written-reads, read-spells}
-use Rattle.image_writer.specs.Answer.{Stored, placeAfter, Kept, Passed}
+use Rattle.image_writer.specs.Answer.{placeAfter, Kept, Passed}
 use Rattle.image.specs.Limits.{Each, AreBytes}
 use Rattle.image_writer.specs.Past.{endOf, among, numberAt, pastNumber, pastPair, pastRaw, times, pastOptional, pastList, pastBytes, pastFields, pastInstruction, pastParts, pastWhole}
 use Rattle.image_writer.specs.declared.writer.Pass.{Pass}
 use Rattle.image.proofs.Parts.{parts, same-place}
 use Rattle.image.proofs.Spells.{alone, number-spells}
-use Rattle.image_writer.proofs.Stores.{has-room, of-number, number-length}
+use Rattle.image_writer.proofs.Stores.{has-room, number-length}
 
 -- ---- the bytes of what was read, stored
 
@@ -69,14 +69,14 @@ number-lies s bs at v next e =
 -- ---- numbers, read and written
 
 module _ (s : List ℕ) (bs : AreBytes s) (c : Pass) (before : List ℕ) (g : Number) (e : got g ≡ number s (c .from)) where
-  pub number-passed : (v next to : ℕ) (w : Written) (after : List ℕ) → g ≡ Value v next → Wrote v (c .to) before w after → to ≡ placeAfter w (c .to)
+  pub number-passed : (v next to : ℕ) (w : Written) (after : List ℕ) → g ≡ Value v next → Stored (bytesOf v) (c .to) before w after → to ≡ placeAfter w (c .to)
       → Passed s (pastNumber s) c before (record { value = v; from = next; to = to }) after × (v ≡ numberAt s (c .from))
   unfolding pastNumber numberAt
   number-passed v next to w after f h p =
       let took-it : number s (c .from) ≡ took v next = sym e ∙ ap got f in (
         record {
           place = ap (λ (g : Got ℕ). endOf g (c .from)) (sym took-it);
-          keeps = λ b enough k. stored-kept s b (bytesOf v) (c .from) next (number-lies s bs (c .from) v next took-it) enough (c .to) to before after w (of-number h) p k;
+          keeps = λ b enough k. stored-kept s b (bytesOf v) (c .from) next (number-lies s bs (c .from) v next took-it) enough (c .to) to before after w h p k;
         },
         ap (orElse 0) (sym took-it),
       )

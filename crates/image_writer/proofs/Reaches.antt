@@ -19,7 +19,7 @@ use Rattle.image.specs.Fields.{such, atMost, known, meant, optional, listOf, ra
 use Rattle.image.specs.Image.{Counts, types, versions, flags, items, flagsOf, mostParameters, header, literalOf, u32, size, type, var, label, constant, callee, operand, slot, branch, declared, table, instruction, function}
 use Rattle.image.specs.Program.{Operand, literal, Instruction, Jump, Switch, Assign, ConstantAddress, Call, Return, IntCmp′, FloatCmp′, Add, Sub, Mul, Div, Mod, FDiv, Not, Negate, Offset, Initialize, Write, Read, Copy, Drop}
 use Rattle.image_writer.specs.Past.{endOf, times, among, numberAt, pastNumber, pastPair, pastRaw, pastOptional, pastList, pastBytes, pastSwitch, pastCall, pastChosen, pastThree, pastTyped, pastTwo, pastInitialize, pastWrite, pastCopy, pastFields, pastInstruction, pastFunction, pastParts, pastWhole}
-use Rattle.image.proofs.Parts.{parts, picked, Every, every-at, meant-some, two-right, three-right, four-right, five-right}
+use Rattle.image.proofs.Parts.{parts, picked, Every, every-at, meant-some, two-right, three-right, four-right, five-right, same-value, same-place}
 use Rattle.image_writer.proofs.Keeps.{same-parts}
 use Rattle.image.proofs.Plain.{plain, plainParts}
 
@@ -39,12 +39,6 @@ then-reaches {A} {B} {p} {k} {past} {past′} h t = record {
       let i = parts (p at) k b next e in
       ap past′ (h .ends at (i .place) (i .value) (i .first)) ∙ t (i .value) .ends (i .place) next b (i .then′);
 }
-
-same-place : {A : Type 0} {a b : A} {m n : ℕ} → took a m ≡ took b n → m ≡ n
-same-place {A} {a} {b} {m} {n} e = cc
-
-same-value : {A : Type 0} {a b : A} {m n : ℕ} → took a m ≡ took b n → a ≡ b
-same-value {A} {a} {b} {m} {n} e = cc
 
 one-reaches : {A Z : Type 0} {p : Field A} {past : ℕ → ℕ} (f : A → Z) → Reaches p past → Reaches (one f p) past
 one-reaches {A} {Z} {p} f h = record {

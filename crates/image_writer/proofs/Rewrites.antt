@@ -17,11 +17,10 @@ use Rattle.loader.specs.declared.load.Loaded.{Loaded}
 use Rattle.loader.specs.Tables.{loadedOf, loadedFrom}
 use Rattle.image.specs.Written.{written}
 use Rattle.image_writer.specs.Past.{pastWhole}
-use Rattle.image_writer.specs.Answer.{Stored, Kept, Passed, Rewrote, outcome, buffer}
+use Rattle.image_writer.specs.Answer.{Kept, Passed, Rewrote, outcome, buffer}
 use Rattle.image_writer.specs.declared.writer.Pass.{Pass}
 use Rattle.image_writer.specs.declared.writer.Outcome.{Outcome}
 use Rattle.image_writer.specs.declared.writer.Outcome.the-variants.{Done, Refused, Short}
-use Rattle.image.specs.declared.number.Written.{Written}
 use Rattle.image.proofs.Parts.{picked}
 use Rattle.image.proofs.Plain.{plain, loaded-plain}
 use Rattle.image.proofs.Writes.{loaded-writes}
@@ -95,10 +94,6 @@ module _ (s : List ℕ) where
           record { answer = rw (t .1, b) (ap Done long); bytes = rw (t .1, b) bytes }
 
 -- ---- two answers that a contract allows are equal
-
-pub one-stored : (x : List ℕ) (start : ℕ) (before : List ℕ) (r r′ : Written) (after after′ : List ℕ) → Stored x start before r after → Stored x start before r′ after′
-    → (r ≡ r′) × (after ≡ after′)
-one-stored x start before r r′ after after′ h k = (h .answer ∙ sym (k .answer), h .buffer ∙ sym (k .buffer))
 
 pub one-rewrote : (s before : List ℕ) (r r′ : Outcome) (after after′ : List ℕ) → Rewrote s before r after → Rewrote s before r′ after′ → (r ≡ r′) × (after ≡ after′)
 one-rewrote s before r r′ after after′ h k = (h .answer ∙ sym (k .answer), h .bytes ∙ sym (k .bytes))

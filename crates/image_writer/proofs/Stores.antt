@@ -1,45 +1,26 @@
 -- Bytes stored in a buffer, one field after another.
-use Prim.Native.Nat.{ℕ, zero, suc, _+_, _/_, _%_, _≤_, _<_}
-use native.Mathlib.Numerals.{add-one}
+use Prim.Native.Nat.{ℕ, zero, suc, _+_, _/_, _%_, _≤_}
 use native.Mathlib.Omega.{arith}
 use mathlib.Core.Bool.{Bool, true, false}
 use mathlib.Core.Path.{_≡_, sym, ap, ap₂, _∙_}
 use mathlib.Core.List.{List, [], _∷_, _++_}
-use lib.ListN.{length, getD, drop, set, length-append, drop-of-length-le}
-use lib.Seq.{sets, length-sets, drop-cons}
+use lib.ListN.{length, length-append}
+use lib.Seq.{sets, length-sets}
 use lib.Dec.{ltb}
-use borrow.Author.Tests.{le-leb, lt-leb}
+use borrow.Author.Tests.{le-leb}
 use Rattle.value.specs.Answer.{pick}
 use Rattle.image.specs.Number.{bytesOf, bytesFrom}
-use Rattle.image.specs.Answer.{Wrote}
+use Rattle.image.specs.Answer.{Stored}
 use Rattle.image.specs.declared.number.Written.{Written}
 use Rattle.image.specs.declared.number.Written.the-variants.{To, Full}
-use Rattle.image_writer.specs.Answer.{Stored}
+use Rattle.value.proofs.Stores.{sets-append}
 
-module _ (x : List ℕ) (start : ℕ) (before : List ℕ) where
-  pub stored : (to : ℕ) (after : List ℕ) → start + length x ≤ length before → to ≡ start + length x → after ≡ sets before start x → Stored x start before (To to) after
-  stored to after room e f =
-      let b = le-leb (start + length x) (length before) room in
-      record { answer = rw b (ap To e); buffer = rw b f }
-
-  pub no-room : length before < start + length x → Stored x start before Full before
-  no-room over =
-      let b = lt-leb (start + length x) (length before) over in
-      record { answer = rw b; buffer = rw b }
-
-  -- where there is room, the bytes are there
-  pub has-room : {r : Written} {after : List ℕ} → start + length x ≤ length before → Stored x start before r after → (r ≡ To (start + length x)) × (after ≡ sets before start x)
-  has-room {r} {after} room h =
-      let b = le-leb (start + length x) (length before) room in
-      (h .answer ∙ ap (λ (t : Bool). pick t (To (start + length x)) Full) b, h .buffer ∙ ap (λ (t : Bool). pick t (sets before start x) before) b)
-
--- a number's bytes are stored so
-pub of-number : {v start : ℕ} {before : List ℕ} {r : Written} {after : List ℕ} → Wrote v start before r after → Stored (bytesOf v) start before r after
-of-number h = record { answer = h .answer; buffer = h .buffer }
-
-sets-append : (l : List ℕ) (i : ℕ) (x y : List ℕ) → sets (sets l i x) (i + length x) y ≡ sets l i (x ++ y)
-sets-append l i [] y = ap (λ (k : ℕ). sets l k y) (omega arith)
-sets-append l i (v ∷ x) y = ap (λ (k : ℕ). sets (sets (set l i v) (suc i) x) k y) (omega arith) ∙ sets-append (set l i v) (suc i) x y
+-- where there is room, the bytes are there
+pub has-room : (x : List ℕ) (start : ℕ) (before : List ℕ) {r : Written} {after : List ℕ} → start + length x ≤ length before → Stored x start before r after
+    → (r ≡ To (start + length x)) × (after ≡ sets before start x)
+has-room x start before {r} {after} room h =
+    let b = le-leb (start + length x) (length before) room in
+    (h .answer ∙ ap (λ (t : Bool). pick t (To (start + length x)) Full) b, h .buffer ∙ ap (λ (t : Bool). pick t (sets before start x) before) b)
 
 -- one after the other, where there is room for both
 module _ (x y : List ℕ) (start : ℕ) (before : List ℕ) (room : start + length (x ++ y) ≤ length before) where
@@ -52,7 +33,7 @@ module _ (x y : List ℕ) (start : ℕ) (before : List ℕ) (room : start + leng
       let b = le-leb (start + length (x ++ y)) (length before) room in
       record {
         answer = rw b (second .0 ∙ ap To (omega (arith, length-append x y)));
-        buffer = rw b (second .1 ∙ ap₂ (λ (l : List ℕ) (i : ℕ). sets l i y) (first .1) place ∙ sets-append before start x y);
+        buffer = rw b (second .1 ∙ ap₂ (λ (l : List ℕ) (i : ℕ). sets l i y) (first .1) place ∙ sym (sets-append before start x y));
       }
     where
       same-to : {a b : ℕ} → To a ≡ To b → a ≡ b
@@ -80,12 +61,3 @@ groups-length (suc f) v = by-test (ltb v 128) (bytesFrom f (v / 128)) (groups-le
 pub number-length : (v : ℕ) → (1 ≤ length (bytesOf v)) × (length (bytesOf v) ≤ 10)
 unfolding bytesOf
 number-length v = groups-length 9 v
-
--- one byte of several, and the last
-module _ (raw : List ℕ) (start : ℕ) where
-  pub one-byte : (out : List ℕ) (i : ℕ) {whole : List ℕ} → i < length raw → sets out (start + i) (drop i raw) ≡ whole → sets (set out (start + i) (getD raw i 0)) (start + (i + 1)) (drop (i + 1) raw) ≡ whole
-  one-byte out i h e =
-      ap₂ (λ (k j : ℕ). sets (set out (start + i) (getD raw i 0)) k (drop j raw)) (omega arith) (add-one i) ∙ ap (sets out (start + i)) (sym (drop-cons raw i 0 h)) ∙ e
-
-  pub last-byte : (out : List ℕ) (i : ℕ) {whole : List ℕ} → length raw ≤ i → sets out (start + i) (drop i raw) ≡ whole → out ≡ whole
-  last-byte out i h e = ap (sets out (start + i)) (sym (drop-of-length-le raw h)) ∙ e

@@ -3,7 +3,6 @@ use Prim.Native.Nat.{ℕ, _+_, _≤_}
 use mathlib.Core.List.{List, _++_}
 use mathlib.Core.Path.{_≡_}
 use lib.ListN.{length, take, drop}
-use lib.Seq.{sets}
 use lib.Dec.{leb}
 use Rattle.value.specs.Answer.{pick}
 use Rattle.image.specs.declared.number.Written.{Written}
@@ -16,11 +15,6 @@ use Rattle.image.specs.Written.{written}
 use Rattle.image_writer.specs.declared.writer.Pass.{Pass}
 use Rattle.image_writer.specs.declared.writer.Outcome.{Outcome}
 use Rattle.image_writer.specs.declared.writer.Outcome.the-variants.{Done, Refused, Short}
-
--- bytes stored from `start` on and the place after them, where they have room; else nothing
-pub record Stored (bytes : List ℕ) (start : ℕ) (before : List ℕ) (r : Written) (after : List ℕ) : Type 0 where
-  pub answer : r ≡ pick (leb (start + length bytes) (length before)) (To (start + length bytes)) Full
-  pub buffer : after ≡ pick (leb (start + length bytes) (length before)) (sets before start bytes) before
 
 abbrev pub placeAfter : Written → ℕ → ℕ
 placeAfter (To at) start = at

@@ -1,7 +1,7 @@
 // Fields of a program, written from their values.
 ghost use mathlib.Core.List.{_++_};
 ghost use Rattle.image.specs.Number.{bytesOf};
-ghost use Rattle.image_writer.specs.Answer.{Stored};
+ghost use Rattle.image.specs.Answer.{Stored};
 use image::number::Written;
 use image::number::length_of;
 use image::number::write_number;

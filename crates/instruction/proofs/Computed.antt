@@ -4,7 +4,7 @@ use native.Mathlib.Omega.{arith}
 use mathlib.Core.Bool.{Bool, true, false}
 use mathlib.Core.Path.{_≡_, refl, sym, ap, _∙_, subst}
 use mathlib.Core.Option.{Option, none, some}
-use lib.Dec.{T, eqb}
+use lib.Dec.{eqb}
 use borrow.Author.Tests.{eq-eqb, ne-eqb, lt-ltb}
 use Rattle.value.specs.Refusal.{notSound, noInstruction}
 use Rattle.value.specs.Answer.{Answer, ok, refused, need, pick, _>>=_}
@@ -22,14 +22,11 @@ use Rattle.value.specs.declared.FloatCmp as F
 use Rattle.value.specs.declared.IntComparison.the-variants as Ic
 use Rattle.value.specs.declared.FloatComparison.the-variants as Fc
 use Rattle.value.proofs.Roundtrip.{bits-back}
+use Rattle.value.proofs.Truth.{is-true}
 use Rattle.instruction.specs.Variables.{found}
 use Rattle.instruction.specs.Compute.{stored, answerOf, foundOf, foundAs, comparedInts, comparedFloats, operated, withSecond, binaryOf, altered, unaryOf}
 use Rattle.instruction.specs.declared.variables.Found.{Found}
 use Rattle.machine.proofs.Values.{Keeps, kept, no-answer, Good, arithmetic-good, divided-good, compared-ints-good, compared-floats-good, notted-good, negated-good}
-
-pub is-true : (b : Bool) → T b → b ≡ true
-is-true true t = refl
-is-true false t = absurd t
 
 -- ---- a value out of its tag and bits
 

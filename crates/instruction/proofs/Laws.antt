@@ -1,17 +1,13 @@
--- Laws that the functions' proofs share: how a Switch's branches are gone through, and that a settled answer is one.
+-- How a Switch's branches are gone through, one after another: the laws that the proofs of its functions share.
 use Prim.Native.Nat.{ℕ, zero, suc, _-_, _<_}
 use native.Mathlib.Numerals.{sub-one}
 use native.Mathlib.Omega.{arith}
-use mathlib.Core.Path.{_≡_, refl, sym, _∙_}
+use mathlib.Core.Path.{_≡_, refl}
 use mathlib.Core.List.{List}
 use borrow.Author.Tests.{eq-eqb, ne-eqb}
 use Rattle.instruction.specs.Decode.{fieldAt}
 use Rattle.instruction.specs.Code.{branchOf}
 use Rattle.instruction.specs.declared.field.Field.{Field}
-
--- Every contract of this crate says `answer ≡ definition`, with every lent table: two answers that it allows are equal.
-pub settled : {A : Type 0} {x y z : A} → x ≡ z → y ≡ z → x ≡ y
-settled e d = e ∙ sym d
 
 -- ---- branches, one after another
 

@@ -1,8 +1,8 @@
 pub mod Decoded
+pub mod Fields
 pub mod Handed
 pub mod Laws
 pub mod Through
-pub mod Whole
 pub mod Computed
 pub mod Values
 pub mod Short

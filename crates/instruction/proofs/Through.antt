@@ -22,6 +22,7 @@ use Rattle.value.specs.declared.Made.the-variants as M
 use Rattle.value.specs.declared.Tagged.the-variants as Tg
 use Rattle.value.proofs.LowFirst.{length-bytes, size-small}
 use Rattle.value.proofs.Roundtrip.{bits-back}
+use Rattle.value.proofs.Truth.{is-true}
 use Rattle.machine.specs.Sound.{all, areBytes}
 use Rattle.machine.proofs.Values.{Keeps, kept, Good, Bytes, read-good}
 use Rattle.memory.specs.Tables.{Tables, Both, both, tables, out, readAccessOf, constantAccessOf, constantOf, takenAt, getAt, readOf, allocatedOf, writtenOf, copiedOf}
@@ -47,7 +48,7 @@ use Rattle.instruction.specs.declared.field.Operand.{Operand}
 use Rattle.instruction.specs.declared.variables.Found.{Found}
 use Rattle.instruction.specs.declared.step.Progress.{Progress}
 use Rattle.instruction.specs.declared.step.Progress.the-variants.{Refused}
-use Rattle.instruction.proofs.Computed.{is-true, refused-first, value-first, unsound-first}
+use Rattle.instruction.proofs.Computed.{refused-first, value-first, unsound-first}
 
 -- ---- a value's bytes, written
 

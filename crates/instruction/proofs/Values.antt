@@ -1,27 +1,25 @@
 -- Variables and operands of the code are the believed machine's: a stored tag and bits are a value or unset, kind by kind.
-use Prim.Native.Nat.{ℕ, suc, _+_, _*_, _/_, _≤_, _<_}
+use Prim.Native.Nat.{ℕ, _+_, _*_, _/_, _<_}
 use native.Mathlib.Omega.{arith}
-use mathlib.Core.Bool.{Bool, true, false, _&&_}
-use mathlib.Core.Path.{_≡_, refl, sym, ap, _∙_, subst, ap₂, fun-ext}
+use mathlib.Core.Bool.{true}
+use mathlib.Core.Path.{_≡_, refl, ap, _∙_, ap₂, fun-ext}
 use mathlib.Core.List.{List}
-use mathlib.Core.Option.{Option, none, some}
 use lib.ListN.{length, getD, set, length-set}
 use lib.Seq.{getD-set-same, getD-set-other}
-use lib.Dec.{T, ltb, leb, eqb, leb·suc-suc}
-use borrow.Author.Tests.{lt-ltb, le-leb, ne-eqb, leb-true, eqb-true, eqb-false}
+use lib.Dec.{ltb, eqb}
+use borrow.Author.Tests.{lt-ltb, ne-eqb, eqb-true, eqb-false}
 use Rattle.value.specs.Refusal.{neverSet}
 use Rattle.value.specs.Answer.{Answer, ok, refused, need, pick}
 use Rattle.value.specs.Answer as Answer
-use Rattle.value.specs.Value.{Value, value, Kind, bool, u8, u16, u32, u64, i8, i16, i32, i64, f32, f64, char, asn, pointer, tag, size, isScalar}
+use Rattle.value.specs.Value.{Value, tag}
 use Rattle.value.specs.Tags.{holds}
-use Rattle.value.proofs.Tags.{kind-of-tag}
-use Rattle.value.proofs.Roundtrip.{scalar-small}
-use Rattle.memory.specs.Stored.{kindAt, greatestOf, storedValue}
+use Rattle.value.proofs.Tags.{kind-of-tag, tag-some}
+use Rattle.value.proofs.Truth.{is-true, is-yes}
+use Rattle.memory.specs.Stored.{storedValue}
 use Rattle.memory.specs.Tables.{storedOk, variableOk}
 use Rattle.memory.specs.View.{variablesIn}
-use Rattle.memory.proofs.Laws.{both-true}
 use Rattle.memory.proofs.Every.{by-test}
-use Rattle.memory.proofs.Forgets.{kind-tag, no-kind}
+use Rattle.memory.proofs.Stored.{Stores, unset, valued, stores, stored-ok, stored-value, stored-none}
 use Rattle.machine.specs.Machine.{setTo}
 use Rattle.machine.specs.Machine as Machine
 use Rattle.machine.proofs.Values.{Keeps, kept, no-answer, Good}
@@ -30,82 +28,6 @@ use Rattle.instruction.specs.Variables.{found, readVariable, setVariable
 use Rattle.instruction.specs.Compute.{answerOf, foundOf}
 use Rattle.instruction.specs.declared.variables.Found.{Found}
 use Rattle.instruction.proofs.Decoded.{asRead}
-
-is-true : (b : Bool) → T b → b ≡ true
-is-true true t = refl
-is-true false t = absurd t
-
-is-yes : (b : Bool) → b ≡ true → T b
-is-yes b e = rw e tt
-
--- ---- one stored value
-
-below : (b n : ℕ) → (leb b n && true) ≡ ltb b (suc n)
-below b n = and-true (leb b n) ∙ sym (leb·suc-suc b n)
-  where
-    and-true : (t : Bool) → (t && true) ≡ t
-    and-true true = refl
-    and-true false = refl
-
-scalar-below : (b : ℕ) (t : Bool) → isScalar b ≡ t → (leb b 4294967295 && t) ≡ t
-scalar-below b true e = rw (le-leb b 4294967295 (omega (arith, scalar-small b e)))
-scalar-below b false e = never (leb b 4294967295)
-  where
-    never : (t : Bool) → (t && false) ≡ false
-    never true = refl
-    never false = refl
-
--- what may be stored with a kind's tag are the kind's bits
-pub stored-ok : (k : Kind) (b : ℕ) → storedOk (tag k) b ≡ holds k b
-unfolding storedOk holds tag greatestOf size
-stored-ok bool b = below b 1
-stored-ok u8 b = below b 255
-stored-ok u16 b = below b 65535
-stored-ok u32 b = below b 4294967295
-stored-ok u64 b = below b 18446744073709551615
-stored-ok i8 b = below b 255
-stored-ok i16 b = below b 65535
-stored-ok i32 b = below b 4294967295
-stored-ok i64 b = below b 18446744073709551615
-stored-ok f32 b = below b 4294967295
-stored-ok f64 b = below b 18446744073709551615
-stored-ok char b = scalar-below b (isScalar b) refl
-stored-ok asn b = below b 4294967295
-stored-ok pointer b = below b 18446744073709551615
-
-pub tag-some : (k : Kind) → eqb (tag k) 0 ≡ false
-unfolding tag
-tag-some bool = refl
-tag-some u8 = refl
-tag-some u16 = refl
-tag-some u32 = refl
-tag-some u64 = refl
-tag-some i8 = refl
-tag-some i16 = refl
-tag-some i32 = refl
-tag-some i64 = refl
-tag-some f32 = refl
-tag-some f64 = refl
-tag-some char = refl
-tag-some asn = refl
-tag-some pointer = refl
-
-pub stored-value : (k : Kind) (b : ℕ) → storedValue (tag k) b ≡ some (value k b)
-unfolding storedValue tag
-stored-value bool b = refl
-stored-value u8 b = refl
-stored-value u16 b = refl
-stored-value u32 b = refl
-stored-value u64 b = refl
-stored-value i8 b = refl
-stored-value i16 b = refl
-stored-value i32 b = refl
-stored-value i64 b = refl
-stored-value f32 b = refl
-stored-value f64 b = refl
-stored-value char b = refl
-stored-value asn b = refl
-stored-value pointer b = refl
 
 -- ---- an answer as a tag and bits, and back
 
@@ -123,26 +45,13 @@ wordFound t b = pick (eqb t 0) (found 0 neverSet) (found t b)
 abbrev Stored : (tag bits : ℕ) → Type 0
 Stored t b = (wordFound t b ≡ foundOf (Answer.found neverSet (storedValue t b))) × Keeps Good (Answer.found neverSet (storedValue t b))
 
-stored-kind : (k : Kind) (b : ℕ) → storedOk (tag k) b ≡ true → Stored (tag k) b
-unfolding Answer.found
-stored-kind k b h = rw (tag-some k, stored-value k b) (refl, kept (is-yes (holds k b) (sym (stored-ok k b) ∙ h)))
-
-stored-none : (b : ℕ) → Stored 0 b
-unfolding Answer.found storedValue
-stored-none b = (refl, no-answer)
-
-stored-small : (t b : ℕ) → storedOk t b ≡ true → t ≤ 14
-unfolding storedOk
-stored-small t b h = leb-true t 14 (both-true (leb t 14) _ h .0)
-
 stored-found : (t b : ℕ) → storedOk t b ≡ true → Stored t b
-stored-found t b h = go (kindAt t) refl
+unfolding Answer.found
+stored-found t b h = go (stores t b h)
   where
-    go : (o : Option Kind) → kindAt t ≡ o → Stored t b
-    go none e = subst (λ (n : ℕ). Stored n b) (sym (no-kind t (stored-small t b h) e)) (stored-none b)
-    go (some k) e =
-        let z : tag k ≡ t = kind-tag t k e in
-        subst (λ (n : ℕ). Stored n b) z (stored-kind k b (ap (λ (n : ℕ). storedOk n b) z ∙ h))
+    go : Stores t b → Stored t b
+    go (unset z y) = rw (z, stored-none b) (refl, no-answer)
+    go (valued k z g) = rw (z, tag-some k, stored-value k b) (refl, kept (is-yes g))
 
 -- what is asked of the variables
 pub record Variables (vars : List ℕ) : Type 0 where

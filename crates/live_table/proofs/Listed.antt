@@ -8,11 +8,11 @@ use lib.ListN.{getD, length}
 use lib.Dec.{leb, eqb}
 use borrow.Author.Tests.{leb-true}
 use Rattle.value.specs.Refusal.{notSound, shortTable}
+use Rattle.value.proofs.Truth.{both-true}
 use Rattle.memory.specs.Tables.{State, Columns, pointerAt, recordOf, memoryOk, roomyOf, soundOf}
 use Rattle.memory.specs.declared.LiveRecord.{LiveRecord}
 use Rattle.memory.specs.declared.Outcome.the-variants as outcome
 use Rattle.memory.proofs.Every.{by-test}
-use Rattle.memory.proofs.Laws.{both-true}
 use Rattle.memory.proofs.Facts.{Sound, sound-of}
 use Rattle.memory.proofs.Last.{roomy-of}
 use Rattle.memory.proofs.Listing.{filled-at, listed-is}

@@ -3,7 +3,7 @@ use Prim.Native.Nat.{ℕ, zero, suc, _+_, _-_}
 use native.Mathlib.Nat.{add-zero}
 use native.Mathlib.Omega.{arith}
 use mathlib.Core.Path.{_≡_, refl, sym, ap, ap₂, _∙_}
-use mathlib.Core.List.{List, [], _∷_, _++_, map-append}
+use mathlib.Core.List.{List, map-append, flatten}
 use lib.ListN.{length, set, length-set, length-append, length-map}
 use lib.Seq.{sets}
 use Rattle.image.specs.Parse.{Got, took, Field, Placed, many, within, placed}
@@ -14,14 +14,9 @@ use Rattle.image.specs.Answer.{shape, after, orElse, walk}
 use Rattle.image.specs.declared.field.Step.{Step}
 use Rattle.image.specs.declared.field.Step.the-variants.{At}
 use Rattle.image.proofs.Shapes.{within-none, within-first, listOf-walk}
-use Rattle.loader.specs.Tables.{ats, joined, starts, Fills, FillsBlocks}
+use Rattle.loader.specs.Tables.{ats, starts, Fills, FillsBlocks}
 use Rattle.loader.proofs.Turn.{after-took, then-took, within-took, within-done, many-within}
-
-pub sets-append : (l : List ℕ) (i : ℕ) (xs ys : List ℕ) → sets l i (xs ++ ys) ≡ sets (sets l i xs) (i + length xs) ys
-sets-append l i [] ys = ap (λ (k : ℕ). sets l k ys) (sym (add-zero i))
-sets-append l i (x ∷ xs) ys =
-    let shift : suc i + length xs ≡ i + length (x ∷ xs) = omega arith in
-    sets-append (set l i x) (suc i) xs ys ∙ ap (λ (k : ℕ). sets (sets (set l i x) (suc i) xs) k ys) shift
+use Rattle.value.proofs.Stores.{sets-append}
 
 pub within-length : {A : Type 0} (size : A → ℕ) (p : ℕ → Field A) (left n at : ℕ) {xs : List A} {e : ℕ} → within size left n p at ≡ took xs e → length xs ≡ n
 within-length size p left zero at h = ap length (within-done size p left at h .0)
@@ -54,8 +49,8 @@ module _ (s : List ℕ) (n : Counts) where
     pub tables : (bs : List (List (Placed Instruction))) (e : ℕ) → after c₀ (all 4096 count) ≡ took bs e
         → (rest : List (List (Placed Instruction))) × (after c (all (4096 - total) m) ≡ took rest e)
         × (sets labels₀ 0 (starts 0 bs) ≡ sets labels i (starts total rest))
-        × (sets places₀ 0 (ats (joined bs)) ≡ sets places total (ats (joined rest)))
-        × (length (joined bs) ≡ total + length (joined rest))
+        × (sets places₀ 0 (ats (flatten bs)) ≡ sets places total (ats (flatten rest)))
+        × (length (flatten bs) ≡ total + length (flatten rest))
     pub label-room : length labels ≡ length labels₀
     pub place-room : length places ≡ length places₀
 
@@ -84,12 +79,13 @@ module _ (s : List ℕ) (n : Counts) where
     next-tables : (bs : List (List (Placed Instruction))) (e : ℕ)
         → ((rest : List (List (Placed Instruction))) × (after c (all (4096 - total) (suc m)) ≡ took rest e)
         × (sets labels₀ 0 (starts 0 bs) ≡ sets labels i (starts total rest))
-        × (sets places₀ 0 (ats (joined bs)) ≡ sets places total (ats (joined rest)))
-        × (length (joined bs) ≡ total + length (joined rest)))
+        × (sets places₀ 0 (ats (flatten bs)) ≡ sets places total (ats (flatten rest)))
+        × (length (flatten bs) ≡ total + length (flatten rest)))
         → (rest : List (List (Placed Instruction))) × (after c′ (all (4096 - (total + k)) m) ≡ took rest e)
         × (sets labels₀ 0 (starts 0 bs) ≡ sets (set labels i total) (i + 1) (starts (total + k) rest))
-        × (sets places₀ 0 (ats (joined bs)) ≡ sets places′ (total + k) (ats (joined rest)))
-        × (length (joined bs) ≡ total + k + length (joined rest))
+        × (sets places₀ 0 (ats (flatten bs)) ≡ sets places′ (total + k) (ats (flatten rest)))
+        × (length (flatten bs) ≡ total + k + length (flatten rest))
+    unfolding flatten
     next-tables bs e (rest, e₁, started, stored, counted) =
         let (at, is-at, e₂) = after-took c (all (4096 - total) (suc m)) e₁ in
         let (b, at′, more, e₃, e₄, is) = within-took length block (4096 - total) m at e₂ in
@@ -107,11 +103,11 @@ module _ (s : List ℕ) (n : Counts) where
           ap (λ (d : Step). after d (all (4096 - (total + k)) m)) c′-is ∙ ap (λ (j : ℕ). all j m at′) (sym less ∙ ap (λ (j : ℕ). 4096 - total - j) (sym size)) ∙ e₄,
           started ∙ ap (λ (l : List (List (Placed Instruction))). sets labels i (starts total l)) is
               ∙ ap₂ (λ (j u : ℕ). sets (set labels i total) j (starts (total + u) more)) (sym one-more) size,
-          stored ∙ ap (λ (l : List (List (Placed Instruction))). sets places total (ats (joined l))) is
-              ∙ ap (sets places total) (map-append (λ x. x .at) b (joined more)) ∙ sets-append places total (ats b) (ats (joined more))
-              ∙ ap₂ (λ (l : List ℕ) (u : ℕ). sets l (total + u) (ats (joined more))) (sym stored-b) wide,
-          counted ∙ ap (λ (l : List (List (Placed Instruction))). total + length (joined l)) is
-              ∙ ap (λ (u : ℕ). total + u) (length-append b (joined more) ∙ ap (λ (u : ℕ). u + length (joined more)) size) ∙ omega arith,
+          stored ∙ ap (λ (l : List (List (Placed Instruction))). sets places total (ats (flatten l))) is
+              ∙ ap (sets places total) (map-append (λ x. x .at) b (flatten more)) ∙ sets-append places total (ats b) (ats (flatten more))
+              ∙ ap₂ (λ (l : List ℕ) (u : ℕ). sets l (total + u) (ats (flatten more))) (sym stored-b) wide,
+          counted ∙ ap (λ (l : List (List (Placed Instruction))). total + length (flatten l)) is
+              ∙ ap (λ (u : ℕ). total + u) (length-append b (flatten more) ∙ ap (λ (u : ℕ). u + length (flatten more)) size) ∙ omega arith,
         )
 
     -- one block more
@@ -127,20 +123,21 @@ module _ (s : List ℕ) (n : Counts) where
   module _ (c₀ : Step) (labels₀ places₀ : List ℕ) (c : Step) (total i : ℕ) (labels places : List ℕ)
       (h : Blocked c₀ (n .blocks) labels₀ places₀ c 0 total i labels places) where
     abbrev Done : List (List (Placed Instruction)) → Type 0
-    Done bs = (labels ≡ sets labels₀ 0 (starts 0 bs)) × (places ≡ sets places₀ 0 (ats (joined bs))) × (total ≡ length (joined bs))
+    Done bs = (labels ≡ sets labels₀ 0 (starts 0 bs)) × (places ≡ sets places₀ 0 (ats (flatten bs))) × (total ≡ length (flatten bs))
 
     all-done : (bs : List (List (Placed Instruction))) (e : ℕ)
         → ((rest : List (List (Placed Instruction))) × (after c (all (4096 - total) 0) ≡ took rest e)
         × (sets labels₀ 0 (starts 0 bs) ≡ sets labels i (starts total rest))
-        × (sets places₀ 0 (ats (joined bs)) ≡ sets places total (ats (joined rest)))
-        × (length (joined bs) ≡ total + length (joined rest)))
+        × (sets places₀ 0 (ats (flatten bs)) ≡ sets places total (ats (flatten rest)))
+        × (length (flatten bs) ≡ total + length (flatten rest)))
         → Done bs
+    unfolding flatten
     all-done bs e (rest, e₁, started, stored, counted) =
         let (at, is-at, e₂) = after-took c (all (4096 - total) 0) e₁ in
         let none-left = within-done length block (4096 - total) at e₂ .0 in (
           sym (started ∙ ap (λ (l : List (List (Placed Instruction))). sets labels i (starts total l)) none-left),
-          sym (stored ∙ ap (λ (l : List (List (Placed Instruction))). sets places total (ats (joined l))) none-left),
-          sym (counted ∙ ap (λ (l : List (List (Placed Instruction))). total + length (joined l)) none-left ∙ add-zero total),
+          sym (stored ∙ ap (λ (l : List (List (Placed Instruction))). sets places total (ats (flatten l))) none-left),
+          sym (counted ∙ ap (λ (l : List (List (Placed Instruction))). total + length (flatten l)) none-left ∙ add-zero total),
         )
 
     -- nothing is left: the tables are filled

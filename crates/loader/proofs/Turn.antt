@@ -58,7 +58,7 @@ many-within p zero at = refl
 many-within p (suc n) at = same-then (p at) _ _ (λ x m. ap (λ (g : Got (List _)). andThen g (λ xs e. took (x ∷ xs) e)) (many-within p n m))
 
 -- an item, and its place
-placed-took : {A : Type 0} (q : ℕ → Field A) (left at : ℕ) {x : Placed A} {m : ℕ} → placed (q left) at ≡ took x m → (q left at ≡ took (x .item) m) × (x .at ≡ at)
+pub placed-took : {A : Type 0} (q : ℕ → Field A) (left at : ℕ) {x : Placed A} {m : ℕ} → placed (q left) at ≡ took x m → (q left at ≡ took (x .item) m) × (x .at ≡ at)
 placed-took {A} q left at {x} {m} h =
     let (a, k, e, f) = then-took (q left at) (λ a m. took (record { at = at; item = a }) m) h in
     let same : m ≡ k = cc in

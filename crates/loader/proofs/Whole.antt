@@ -2,7 +2,7 @@
 use Prim.Native.Nat.{ℕ, _≤_, _<_}
 use native.Mathlib.Omega.{arith}
 use mathlib.Core.Path.{_≡_, refl, sym, ap, _∙_}
-use mathlib.Core.List.{List, []}
+use mathlib.Core.List.{List, [], flatten}
 use lib.ListN.{length, replicate}
 use borrow.Author.Tests.{le-leb, lt-leb}
 use Rattle.value.specs.Refusal.{overLimit}
@@ -17,7 +17,7 @@ use Rattle.image.proofs.Laws.{next}
 use Rattle.loader.specs.declared.Counts as Held
 use Rattle.loader.specs.declared.load.Loaded as Code
 use Rattle.loader.specs.Counts.{countsOf}
-use Rattle.loader.specs.Tables.{ats, joined, starts, table, loadedOf, Heads, Fills, FillsBlocks}
+use Rattle.loader.specs.Tables.{ats, starts, table, loadedOf, Heads, Fills, FillsBlocks}
 use Rattle.loader.proofs.Turn.{after-took}
 use Rattle.loader.proofs.Blocks.{within-length, many-length}
 
@@ -124,8 +124,8 @@ module _ (s : List ℕ) (n : Held.Counts) (c₀ c₁ c₂ c₃ : Step) (total : 
       let bs-are : orElse [] (after c₂ (blocks s N)) ≡ b = ap (orElse []) e₃ in
       let fs-are : orElse [] (after c₁ (many (n .functions) (placed (function s N)))) ≡ f = ap (orElse []) e₂ in
       let ks-are : orElse [] (after c₀ (constants s N)) ≡ k = ap (orElse []) e₁ in
-      same-loaded at (n .variables) (n .constants) (n .functions) (n .blocks) total (length k) (length f) (length b) (length (joined b))
-      P L F K (table 4096 (ats (joined b))) (table 512 (starts 0 b)) (table 64 (ats f)) (table 64 (ats k))
+      same-loaded at (n .variables) (n .constants) (n .functions) (n .blocks) total (length k) (length f) (length b) (length (flatten b))
+      P L F K (table 4096 (ats (flatten b))) (table 512 (starts 0 b)) (table 64 (ats f)) (table 64 (ats k))
       (sym (constants-length s N c₀ c₁ c₂ c₃ heads m₀ x₀)) (sym (many-length (placed (function s N)) (n .functions) m₁ x₁)) (sym (blocks-length s N c₀ c₁ c₂ c₃ heads m₂ x₂))
       (hb .counting b m₃ e₃) (hb .placing b m₃ e₃) (hb .starting b m₃ e₃) (hf .places f m₂ e₂) (hk .places k m₁ e₁)
       ∙ ap loadedOf (ap (λ (i : Image). took i at) (same-image (n .variables) ks-are fs-are bs-are) ∙ sym (went s N c₀ c₁ c₂ c₃ heads (hk .ends) (hf .ends) (hb .ends) small e))

@@ -1,6 +1,6 @@
 -- What the loader leaves in its tables: the places of what was read.
 use Prim.Native.Nat.{ℕ, _+_, _≤_}
-use mathlib.Core.List.{List, [], _∷_, _++_, map}
+use mathlib.Core.List.{List, [], _∷_, map, flatten}
 use mathlib.Core.Path.{_≡_}
 use lib.ListN.{length, replicate}
 use lib.Seq.{sets}
@@ -16,11 +16,6 @@ use Rattle.loader.specs.declared.load.Loaded as Code
 abbrev pub ats : {A : Type 0} → List (Placed A) → List ℕ
 ats xs = map (λ x. x .at) xs
 
--- the lists one after another
-abbrev pub joined : {A : Type 0} → List (List A) → List A
-joined [] = []
-joined (b ∷ bs) = b ++ joined bs
-
 -- "A label is a block's position": the position of its first instruction among all, after the `total` before it
 abbrev pub starts : {A : Type 0} → (total : ℕ) → List (List A) → List ℕ
 starts total [] = []
@@ -35,8 +30,8 @@ unfoldable pub loadedOf : Got Image → Code.Loaded
 loadedOf (took i end) = record {
   end = At end;
   counts = record { variables = i .variables; constants = length (i .constants); functions = length (i .functions); blocks = length (i .blocks) };
-  instructions = length (joined (i .blocks));
-  places = table 4096 (ats (joined (i .blocks)));
+  instructions = length (flatten (i .blocks));
+  places = table 4096 (ats (flatten (i .blocks)));
   labels = table 512 (starts 0 (i .blocks));
   functions = table 64 (ats (i .functions));
   constants = table 64 (ats (i .constants));
@@ -72,5 +67,5 @@ pub record Fills {A : Type 0} (p : Field (List (Placed A))) (c : Step) (base : �
 pub record FillsBlocks (p : Field (List (List (Placed Instruction)))) (c : Step) (labels₀ places₀ : List ℕ) (end : Step) (total : ℕ) (labels places : List ℕ) : Type 0 where
   pub ends : end ≡ walk p c
   pub starting : (bs : List (List (Placed Instruction))) (e : ℕ) → after c p ≡ took bs e → labels ≡ sets labels₀ 0 (starts 0 bs)
-  pub placing : (bs : List (List (Placed Instruction))) (e : ℕ) → after c p ≡ took bs e → places ≡ sets places₀ 0 (ats (joined bs))
-  pub counting : (bs : List (List (Placed Instruction))) (e : ℕ) → after c p ≡ took bs e → total ≡ length (joined bs)
+  pub placing : (bs : List (List (Placed Instruction))) (e : ℕ) → after c p ≡ took bs e → places ≡ sets places₀ 0 (ats (flatten bs))
+  pub counting : (bs : List (List (Placed Instruction))) (e : ℕ) → after c p ≡ took bs e → total ≡ length (flatten bs)

@@ -3,13 +3,13 @@ use lib.Dec.{T}
 use Rattle.value.specs.Answer.{need, found, _>>=_}
 use Rattle.value.specs.Divide.{roundBits, divideBits}
 use Rattle.value.specs.Value.{kindOf, tag, size, family, isScalar, isBadChar, integer, bitsOf, checked, operate, arithmetic, divideFloats, negated, notted, real, naturals, integers, reals, passes, hasEquality, equality, unsignedOrder, signedOrder, floatOrder, compareInts, compareFloats, switchOn, leBytes, leNumber, bytesOf, fromBytes}
-use Rattle.image.specs.Program.{flatten}
 use Rattle.memory.specs.Memory.{fresh, sum, liveCount, liveBytes, allocate, access, writeAt, writeBytes, readConstant, readAt, readBytes, offsetAt, offsetBy, constantAddress, pushFrame, popFrame}
 use Rattle.machine.specs.Machine as M
 use Rattle.machine.specs.Believed.{believed}
 use Rattle.machine.specs.Recalled.{recalled}
 use Rattle.machine.specs.History.{beginning, lastStored, storedAt, moved, among, first, bytesFrom, toldAt, told, next, toldCount, toldBytes, tellAllocation, tellAddress, tellStoreAt, tellStore, tellOffsetAt, tellOffset, tellCall, tellReturn}
 use Rattle.machine.specs.Cases.{cases, allHold, ran, runs, sameOutcome, sameValue}
+use mathlib.Core.List.{flatten}
 
 pub all-hold : T (allHold believed cases)
 unfolding cases allHold ran runs sameOutcome sameValue need found _>>=_ roundBits divideBits tag size kindOf family isScalar isBadChar integer bitsOf checked operate arithmetic divideFloats negated notted real naturals integers reals passes hasEquality equality unsignedOrder signedOrder floatOrder compareInts compareFloats switchOn leBytes leNumber bytesOf fromBytes flatten fresh sum liveCount liveBytes allocate access writeAt writeBytes readConstant readAt readBytes offsetAt offsetBy constantAddress pushFrame popFrame M.start M.run M.runFrom M.after M.step M.execute M.leave M.makeSlots M.fresh M.setStarted M.setValues M.allGood M.setReturned M.valueIf M.toOf M.choose M.setArguments M.asVariable M.setFrom M.pointerOf M.asPointer M.valueOf

@@ -5,7 +5,7 @@ use native.Mathlib.Nat.{le-refl, le-trans}
 use native.Mathlib.Omega.{arith}
 use mathlib.Core.Bool.{Bool, true, false, not, _&&_, _||_}
 use mathlib.Core.Path.{_≡_, refl, subst}
-use mathlib.Core.List.{List, [], _∷_}
+use mathlib.Core.List.{List, [], _∷_, flatten}
 use mathlib.Core.Option.{Option, none, some}
 use lib.ListN.{length, take, getElem?, length-append}
 use lib.Dec.{T, leb, eqb, ltb→lt, leb→le, lt→ltb, le→leb}
@@ -14,7 +14,7 @@ use Rattle.value.specs.Refusal.{noInstruction}
 use Rattle.value.specs.Answer.{Answer, ok, refused, found, _>>=_, pick}
 use Rattle.value.specs.Value.{Value, value, Kind, bool, u8, u16, u32, u64, i8, i16, i32, i64, f32, f64, char, asn, pointer, tag, same, kindOf, size, isScalar, isBadChar, bytesOf}
 use Rattle.value.specs.Tags.{holds}
-use Rattle.image.specs.Program.{Program, Operand, variable, literal, Slot, Declared, Function, functionAt, flatten, code, placeOf, Instruction, Jump, Switch, Assign, ConstantAddress, Call, Return, IntCmp′, FloatCmp′, Add, Sub, Mul, Div, Mod, FDiv, Not, Negate, Offset, Initialize, Write, Read, Copy, Drop}
+use Rattle.image.specs.Program.{Program, Operand, variable, literal, Slot, Declared, Function, functionAt, code, placeOf, Instruction, Jump, Switch, Assign, ConstantAddress, Call, Return, IntCmp′, FloatCmp′, Add, Sub, Mul, Div, Mod, FDiv, Not, Negate, Offset, Initialize, Write, Read, Copy, Drop}
 use Rattle.memory.specs.Memory.{Back}
 use Rattle.memory.specs.Live.{Live}
 use Rattle.machine.specs.Machine.{Memories, Vars, unset, setTo, Machine, Stepped, went, ended, Ran, valueOf, setFrom, setArguments, setValues, choose, asVariable, toOf, valueIf, setReturned, setStarted, allGood, makeSlots, sets₁, sets₂, leave, execute, step, after, runFrom, run, stepOnce, hostAllocate, hostWrite, start}
@@ -26,7 +26,7 @@ use Rattle.machine.proofs.Values.{Keeps, kept, no-answer, keeps-need, k
 
 -- ---- programs
 
-flatten-front : (label : ℕ) (bs : List (List Instruction)) → length (flatten (take label bs)) ≤ length (flatten bs)
+pub flatten-front : (label : ℕ) (bs : List (List Instruction)) → length (flatten (take label bs)) ≤ length (flatten bs)
 unfolding flatten
 flatten-front zero bs = omega arith
 flatten-front (suc n) [] = le-refl _

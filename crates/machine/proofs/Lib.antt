@@ -2,7 +2,6 @@ pub mod Agree
 pub mod Lift
 pub mod Recalled
 pub mod Apart
-pub mod Store
 pub mod Cases
 pub mod Count
 pub mod Initialize

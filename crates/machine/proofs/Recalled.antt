@@ -9,10 +9,10 @@ use lib.ListN.{length, getD, length-map}
 use lib.Dec.{T, ltb, leb, ltb→lt, lt→ltb}
 use Rattle.value.specs.Refusal.{allocationsFull, beyondLength, bytesFull, frameGone, framesFull, idsSpent, misaligned, notGivenOut, offsetTooLarge, pointersFull}
 use Rattle.value.specs.Answer.{Answer, ok, need, pick}
-use Rattle.memory.specs.Memory.{Memory, Back, Frame, Pointer, constant, local, top, sum, frameAt, pointerAt, stands, written, popped, allocate, liveCount, liveBytes, writeAt, writeBytes, offsetAt, offsetBy, constantAddress, pushFrame, popFrame, livePointer, liveList}
+use Rattle.memory.specs.Memory.{Memory, Back, Frame, Pointer, constant, local, top, sum, frameAt, pointerAt, stands, written, popped, allocate, liveCount, liveBytes, writeAt, writeBytes, offsetAt, offsetBy, constantAddress, pushFrame, popFrame, livePointer, liveList, noBack}
 use Rattle.memory.specs.Live.{listed}
 use mir.Facts.{and-yes, yes-and}
-use Rattle.machine.specs.History.{History, Made, madeIn, noBack, targetOf, topFrame, among, next, offset, address, lessTop, moved, toldCount, toldBytes, tellAllocation, tellAddress, tellStoreAt, tellStore, tellOffsetAt, tellOffset, tellCall, tellReturn, toldPointer, toldList}
+use Rattle.machine.specs.History.{History, Made, madeIn, targetOf, topFrame, among, next, offset, address, lessTop, moved, toldCount, toldBytes, tellAllocation, tellAddress, tellStoreAt, tellStore, tellOffsetAt, tellOffset, tellCall, tellReturn, toldPointer, toldList}
 use Rattle.machine.specs.Alike.{Alike, both-ok, both-refused, Back-alike, both-root, both-back, Likened}
 use Rattle.machine.specs.Believed.{believed}
 use Rattle.machine.specs.Recalled.{recalled}

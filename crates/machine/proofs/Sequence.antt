@@ -1,9 +1,9 @@
 -- The sequences are accepted, and answered as they say, by computing; and the history tells the same.
 use mathlib.Core.Path.{_≡_, refl, sym, _∙_}
+use mathlib.Core.List.{flatten}
 use Rattle.value.specs.Answer.{need, found, _>>=_}
 use Rattle.value.specs.Refusal.{notSound}
 use Rattle.value.specs.Value.{kindOf, tag, size, family, isScalar, isBadChar, leBytes, leNumber, bytesOf, fromBytes}
-use Rattle.image.specs.Program.{flatten}
 use Rattle.memory.specs.Memory as Memory
 use Rattle.memory.specs.Memory.{sum, liveCount, liveBytes, allocate, access, writeAt, writeBytes, readConstant, readAt, readBytes, offsetAt, offsetBy, constantAddress, pushFrame, popFrame, livePointer, liveList}
 use Rattle.machine.specs.Machine as M

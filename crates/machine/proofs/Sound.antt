@@ -1,14 +1,14 @@
 -- Every ask of an accepted program keeps the state sound, so that from fresh memory on 10 is never given: each entry is what is asked.
-use Prim.Native.Nat.{ℕ, zero, suc, _-_, _^_, _<_}
+use Prim.Native.Nat.{ℕ, zero, suc, _-_, _<_}
 use native.Mathlib.Nat.{le-refl, not-suc-le-zero}
 use native.Mathlib.Omega.{arith}
 use native.Mathlib.Decide.{ℕ-discrete}
-use mathlib.Core.Bool.{Bool, true, false, not, _||_}
+use mathlib.Core.Bool.{Bool, true, false, _||_}
 use mathlib.Core.Path.{_≡_, refl, sym, ap, subst}
 use mathlib.Core.Option.{Option, none, some}
 use mathlib.Core.List.{List, [], _∷_, _++_}
 use lib.ListN.{length}
-use lib.Dec.{T, leb, eqb, leb→le, le→leb, ltb→lt, lt→ltb}
+use lib.Dec.{T, leb, eqb, leb→le, le→leb}
 use mir.Facts.{and-yes, yes-and}
 use Rattle.value.specs.Refusal.{notSound}
 use Rattle.value.specs.Answer.{pick}
@@ -16,11 +16,11 @@ use Rattle.memory.specs.Memory as Memory
 use Rattle.memory.specs.Memory.{Memory, liveCount, liveBytes, sum}
 use Rattle.machine.specs.Machine.{Machine, Vars, fresh}
 use Rattle.machine.specs.Believed.{believed}
-use Rattle.value.specs.Value.{Value, value, Kind, bool, u8, u16, u32, u64, i8, i16, i32, i64, f32, f64, char, asn, pointer, tag, size, isBadChar, isScalar}
+use Rattle.value.specs.Value.{Value}
 use Rattle.value.specs.Tags.{holds}
-use Rattle.value.proofs.Roundtrip.{scalar-small}
-use Rattle.memory.specs.Stored.{greatest}
+use Rattle.value.proofs.Truth.{is-true, is-yes}
 use Rattle.memory.specs.Sound.{rising, goodVar, goodBack, goodBacks, goodValue, goodVars, soundMemory, soundMachine, inKind, typed}
+use Rattle.memory.proofs.Stored.{no-bad-char}
 use Rattle.machine.specs.Sound.{all, bytesIn, sound}
 use Rattle.machine.specs.Accepted.{acceptedAsk}
 use Rattle.machine.specs.Asks.{Ask, Reply, refusal, turn, ask, replies, following}
@@ -34,92 +34,28 @@ fresh-sound = tt
 
 -- ---- the test, and the facts
 
-twice : (x : Bool) → T (not (not x)) → T x
-twice true t = tt
-twice false t = t
-
-again : (x : Bool) → T x → T (not (not x))
-again true t = tt
-again false t = t
-
-is-true : (x : Bool) → T x → x ≡ true
-is-true true t = refl
-is-true false t = absurd t
-
--- bits in their kind and no bad Char: that is a value
-held-value : (k : Kind) (b : ℕ) → T (leb b (greatest k)) → T (not (isBadChar (value k b))) → T (holds k b)
-unfolding isBadChar holds tag size
-held-value bool b t u = lt→ltb b 2 (omega (arith, leb→le b 1 t))
-held-value u8 b t u = lt→ltb b (2 ^ 8) (omega (arith, leb→le b (2 ^ 8 - 1) t))
-held-value u16 b t u = lt→ltb b (2 ^ 16) (omega (arith, leb→le b (2 ^ 16 - 1) t))
-held-value u32 b t u = lt→ltb b (2 ^ 32) (omega (arith, leb→le b (2 ^ 32 - 1) t))
-held-value u64 b t u = lt→ltb b (2 ^ 64) (omega (arith, leb→le b (2 ^ 64 - 1) t))
-held-value i8 b t u = lt→ltb b (2 ^ 8) (omega (arith, leb→le b (2 ^ 8 - 1) t))
-held-value i16 b t u = lt→ltb b (2 ^ 16) (omega (arith, leb→le b (2 ^ 16 - 1) t))
-held-value i32 b t u = lt→ltb b (2 ^ 32) (omega (arith, leb→le b (2 ^ 32 - 1) t))
-held-value i64 b t u = lt→ltb b (2 ^ 64) (omega (arith, leb→le b (2 ^ 64 - 1) t))
-held-value f32 b t u = lt→ltb b (2 ^ 32) (omega (arith, leb→le b (2 ^ 32 - 1) t))
-held-value f64 b t u = lt→ltb b (2 ^ 64) (omega (arith, leb→le b (2 ^ 64 - 1) t))
-held-value asn b t u = lt→ltb b (2 ^ 32) (omega (arith, leb→le b (2 ^ 32 - 1) t))
-held-value pointer b t u = lt→ltb b (2 ^ 64) (omega (arith, leb→le b (2 ^ 64 - 1) t))
-held-value char b t u = twice (isScalar b) u
-
-in-kind : (k : Kind) (b : ℕ) → T (holds k b) → T (leb b (greatest k))
-unfolding holds tag size
-in-kind bool b t = le→leb b 1 (omega (arith, ltb→lt b 2 t))
-in-kind u8 b t = le→leb b (2 ^ 8 - 1) (omega (arith, ltb→lt b (2 ^ 8) t))
-in-kind u16 b t = le→leb b (2 ^ 16 - 1) (omega (arith, ltb→lt b (2 ^ 16) t))
-in-kind u32 b t = le→leb b (2 ^ 32 - 1) (omega (arith, ltb→lt b (2 ^ 32) t))
-in-kind u64 b t = le→leb b (2 ^ 64 - 1) (omega (arith, ltb→lt b (2 ^ 64) t))
-in-kind i8 b t = le→leb b (2 ^ 8 - 1) (omega (arith, ltb→lt b (2 ^ 8) t))
-in-kind i16 b t = le→leb b (2 ^ 16 - 1) (omega (arith, ltb→lt b (2 ^ 16) t))
-in-kind i32 b t = le→leb b (2 ^ 32 - 1) (omega (arith, ltb→lt b (2 ^ 32) t))
-in-kind i64 b t = le→leb b (2 ^ 64 - 1) (omega (arith, ltb→lt b (2 ^ 64) t))
-in-kind f32 b t = le→leb b (2 ^ 32 - 1) (omega (arith, ltb→lt b (2 ^ 32) t))
-in-kind f64 b t = le→leb b (2 ^ 64 - 1) (omega (arith, ltb→lt b (2 ^ 64) t))
-in-kind asn b t = le→leb b (2 ^ 32 - 1) (omega (arith, ltb→lt b (2 ^ 32) t))
-in-kind pointer b t = le→leb b (2 ^ 64 - 1) (omega (arith, ltb→lt b (2 ^ 64) t))
-in-kind char b t = le→leb b (2 ^ 32 - 1) (omega (arith, scalar-small b (is-true (isScalar b) t)))
-
-no-bad-char : (k : Kind) (b : ℕ) → T (holds k b) → T (not (isBadChar (value k b)))
-unfolding isBadChar holds tag
-no-bad-char bool b t = tt
-no-bad-char u8 b t = tt
-no-bad-char u16 b t = tt
-no-bad-char u32 b t = tt
-no-bad-char u64 b t = tt
-no-bad-char i8 b t = tt
-no-bad-char i16 b t = tt
-no-bad-char i32 b t = tt
-no-bad-char i64 b t = tt
-no-bad-char f32 b t = tt
-no-bad-char f64 b t = tt
-no-bad-char asn b t = tt
-no-bad-char pointer b t = tt
-no-bad-char char b t = again (isScalar b) t
-
-value-good : (o : Option Value) → T (goodValue o) → T (inKind o) → GoodIf o
-unfolding goodValue inKind
-value-good none t u = tt
-value-good (some v) t u = held-value (v .kind) (v .bits) u t
-
-good-value : (o : Option Value) → GoodIf o → T (goodValue o)
-unfolding goodValue
-good-value none t = tt
-good-value (some v) t = no-bad-char (v .kind) (v .bits) t
+value-good : (o : Option Value) → T (inKind o) → GoodIf o
+unfolding inKind
+value-good none u = tt
+value-good (some v) u = u
 
 typed-value : (o : Option Value) → GoodIf o → T (inKind o)
 unfolding inKind
 typed-value none t = tt
-typed-value (some v) t = in-kind (v .kind) (v .bits) t
+typed-value (some v) t = t
 
-values-good : (vs : Vars) (n : ℕ) → T (goodVars vs n) → T (typed vs n) → (x : ℕ) → x < n → GoodIf (vs x)
-unfolding goodVars typed
-values-good vs zero t u x l = absurd (not-suc-le-zero l)
-values-good vs (suc n) t u x l =
-    let a = and-yes (goodValue (vs n)) (goodVars vs n) t in
+good-value : (o : Option Value) → GoodIf o → T (goodValue o)
+unfolding goodValue
+good-value none t = tt
+good-value (some v) t = is-yes (no-bad-char (v .kind) (v .bits) (is-true (holds (v .kind) (v .bits)) t))
+
+-- a value's bits are its kind's: `GoodIf`, as a test
+values-good : (vs : Vars) (n : ℕ) → T (typed vs n) → (x : ℕ) → x < n → GoodIf (vs x)
+unfolding typed
+values-good vs zero u x l = absurd (not-suc-le-zero l)
+values-good vs (suc n) u x l =
     let b = and-yes (inKind (vs n)) (typed vs n) u in
-    elim (ℕ-discrete x n) [ yes e ↦ subst (λ (k : ℕ). GoodIf (vs k)) (sym e) (value-good (vs n) (a .0) (b .0)) | no d ↦ values-good vs n (a .1) (b .1) x (omega arith) ]
+    elim (ℕ-discrete x n) [ yes e ↦ subst (λ (k : ℕ). GoodIf (vs k)) (sym e) (value-good (vs n) (b .0)) | no d ↦ values-good vs n (b .1) x (omega arith) ]
 
 good-values : (vs : Vars) (n : ℕ) → ((x : ℕ) → x < n → GoodIf (vs x)) → T (goodVars vs n) × T (typed vs n)
 unfolding goodVars typed
@@ -140,7 +76,7 @@ module _ {m₀ : Memory} {s : Machine Memory} where
       record {
         memory = record { solid = sound-solid (s .memory) (a .0) (y .1); later = l; idle = c .1 };
         place = leb→le (s .place) 4096 (b .0);
-        vars = values-good (s .vars) 256 (c .0) (y .0);
+        vars = values-good (s .vars) 256 (y .0);
       }
 
   held-sound : Held (sounds-kept m₀) s → T (sound s)

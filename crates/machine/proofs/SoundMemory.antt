@@ -23,11 +23,6 @@ use Rattle.machine.proofs.Kept.{Kept, Popping, at-root, back-to}
 
 -- ---- sums over a list
 
-sum-append : (l r : List ℕ) → sum (l ++ r) ≡ sum l + sum r
-unfolding sum
-sum-append [] r = omega arith
-sum-append (x ∷ l) r = omega (arith, sum-append l r)
-
 sum-set : {A : Type 0} (g : A → ℕ) (l : List A) (i : ℕ) (x d : A) → i < length l → sum (map g (set l i x)) + g (getD l i d) ≡ sum (map g l) + g x
 unfolding sum
 sum-set g [] i x d h = absurd (not-suc-le-zero h)
@@ -65,23 +60,11 @@ rising-snoc [] x c t h = lt→ltb x c h
 rising-snoc (y ∷ []) x c t h = yes-and (ltb y x) (ltb x c) t (lt→ltb x c h)
 rising-snoc (y ∷ z ∷ l) x c t h = let u = and-yes (ltb y z) (risingIds (z ∷ l) x) t in yes-and (ltb y z) (risingIds (z ∷ (l ++ (x ∷ []))) c) (u .0) (rising-snoc (z ∷ l) x c (u .1) h)
 
-rising-more : (l : List ℕ) (x c : ℕ) → T (risingIds l x) → x ≤ c → T (risingIds l c)
-unfolding risingIds
-rising-more [] x c t h = tt
-rising-more (y ∷ []) x c t h = lt→ltb y c (le-trans (ltb→lt y x t) h)
-rising-more (y ∷ z ∷ l) x c t h = let u = and-yes (ltb y z) (risingIds (z ∷ l) x) t in yes-and (ltb y z) (risingIds (z ∷ l) c) (u .0) (rising-more (z ∷ l) x c (u .1) h)
-
 rising-front : (l : List ℕ) (x c : ℕ) → T (risingIds (l ++ (x ∷ [])) c) → T (risingIds l c)
 unfolding risingIds
 rising-front [] x c t = tt
 rising-front (y ∷ []) x c t = let u = and-yes (ltb y x) (ltb x c) t in lt→ltb y c (le-trans (ltb→lt y x (u .0)) (omega (arith, ltb→lt x c (u .1))))
 rising-front (y ∷ z ∷ l) x c t = let u = and-yes (ltb y z) (risingIds (z ∷ (l ++ (x ∷ []))) c) t in yes-and (ltb y z) (risingIds (z ∷ l) c) (u .0) (rising-front (z ∷ l) x c (u .1))
-
-rising-last : (l : List ℕ) (x c : ℕ) → T (risingIds (l ++ (x ∷ [])) c) → x < c
-unfolding risingIds
-rising-last [] x c t = ltb→lt x c t
-rising-last (y ∷ []) x c t = ltb→lt x c (and-yes (ltb y x) (ltb x c) t .1)
-rising-last (y ∷ z ∷ l) x c t = rising-last (z ∷ l) x c (and-yes (ltb y z) (risingIds (z ∷ (l ++ (x ∷ []))) c) t .1)
 
 abbrev pub backs : List Frame → List Back
 backs fs = map (λ (f : Frame). f .back) fs

@@ -9,7 +9,7 @@ use lib.ListN.{length, getD, take, set}
 use lib.Dec.{T, ltb, leb, eqb}
 use Rattle.value.specs.Refusal.{allocationsFull, beyondLength, bytesFull, frameGone, framesFull, idsSpent, misaligned, notGivenOut, offsetTooLarge, pointersFull, throughConstant}
 use Rattle.value.specs.Answer.{Answer, ok, refused, need, pick}
-use Rattle.memory.specs.Memory.{Back, top, sum, divides, readConstant}
+use Rattle.memory.specs.Memory.{Back, top, sum, divides, readConstant, noBack}
 use Rattle.memory.specs.Live.{Live, listed}
 
 pub data Event : Type 0 where
@@ -36,9 +36,6 @@ pub record History : Type 0 where
   pub backs : List Back  -- for each frame ever begun, where its Return goes on, and the variable that takes its value
   pub standing : List ℕ  -- the frames that have not ended, the root first
   pub given : List Target  -- for each pointer number ever given, what it stands for
-
-abbrev pub noBack : Back
-noBack = record { place = 0; var = none }
 
 unfoldable pub beginning : History
 beginning = record { made = [] ∷ []; below = 0 ∷ []; backs = noBack ∷ []; standing = 0 ∷ []; given = [] }

@@ -12,6 +12,7 @@ use Rattle.memory.specs.Live.{Live}
 use Rattle.memory.specs.Memory.{Back}
 use Rattle.value.specs.Value.{Value, kindOf, size, same, value, pointer, isBadChar, add, sub, mul, div, mod′, arithmetic, divideFloats, notted, negated, compareInts, compareFloats, switchOn, bytesOf, fromBytes}
 use Rattle.image.specs.Program.{Program, Operand, variable, literal, Slot, Branch, Declared, Function, functionAt, code, placeOf, Instruction, Jump, Switch, Assign, ConstantAddress, Call, Return, IntCmp′, FloatCmp′, Add, Sub, Mul, Div, Mod, FDiv, Not, Negate, Offset, Initialize, Write, Read, Copy, Drop}
+use Rattle.image.specs.Written.{flagNumber}
 
 -- What the machine asks of a memory. A new pointer's number is how many were given out before it.
 pub record Memories (M : Type 0) : Type 0 where
@@ -115,10 +116,6 @@ unfoldable pub setStarted : Vars → Function → (flagged : Bool) → List Valu
 setStarted vs F false gs = setValues vs (F .parameters) gs
 setStarted vs F true [] = vs  -- never: 14 came first
 setStarted vs F true (g ∷ gs) = setValues (setTo vs (F .returnVar) g) (F .parameters) gs
-
-abbrev pub asNumber : Bool → ℕ
-asNumber true = 1
-asNumber false = 0
 
 -- ---- the step
 
@@ -320,7 +317,7 @@ module _ {M : Type 0} (mem : Memories M) where
       let F = functionAt P f in
       need (not (s .running)) Refusal.running
       (need (ltb f (length (P .functions))) Refusal.noFunction
-      (need (eqb (length gs) (length (F .parameters) + asNumber (F .returnPointer))) Refusal.wrongArguments
+      (need (eqb (length gs) (length (F .parameters) + flagNumber (F .returnPointer))) Refusal.wrongArguments
       (need (allGood (context ∷ gs)) Refusal.notScalar (do
         (m, vs) ← makeSlots (F .slots) (s .memory) (setStarted (setTo unset (F .contextVar) context) F (F .returnPointer) gs)
         ok (record { memory = m; running = true; place = placeOf P (F .entry); vars = vs })))))

@@ -22,7 +22,7 @@ use Rattle.memory.proofs.Every.{by-test}
 use Rattle.memory.proofs.Tab.{tab-more, length-tab, tab-same, getD-tab, tab-set, part-length, part-below, part-in}
 use Rattle.memory.proofs.Facts.{FrameSound, Sound, ready-test}
 use Rattle.memory.proofs.Frames.{frame-same, memory-same, firsts-up, ends-up, end-live}
-use Rattle.memory.proofs.Pointers.{given-more, length-pointer-set, pointer-other, pointer-put, count-seen, kind-at}
+use Rattle.memory.proofs.Pointers.{given-more, length-pointer-set, pointer-other, pointer-put, count-seen, kind-at, local-ok, never-given}
 use Rattle.memory.proofs.Counts.{count-live, bytes-live, length-allocations}
 
 pub lt-of-ne : {a b : ℕ} → a ≤ b → (b ≡ a → ⊥) → a < b
@@ -51,10 +51,6 @@ local-in i f j = refl
 
 local-same : {i i′ f f′ j j′ : ℕ} → i ≡ i′ → f ≡ f′ → j ≡ j′ → local i f j 0 ≡ local i′ f′ j′ 0
 local-same p q r = cc
-
-local-ok : (i f j o : ℕ) → pointerOk (pointer 0 i f j o) ≡ true
-unfolding pointerOk
-local-ok i f j o = refl
 
 above-same : (fr fr′ : List ℕ) (d counter i : ℕ) → getD fr′ (i * 4 + 4) 0 ≡ getD fr (i * 4 + 4) 0 → idAbove fr′ d counter i ≡ idAbove fr d counter i
 unfolding idAbove
@@ -349,9 +345,6 @@ module _ (t : Tables) (so : Sound t) (size : ℕ) where
   pub allocate-view : afterAllocate (allocatedOf t size) ≡ allocate (view t) size
   allocate-view = seen allocation
 
-  never-made : (n p : ℕ) (m : Registers) → given.Refused n ≡ given.Made p m → ⊥
-  never-made n p m e = let z : _≡_ {A = ℕ} 0 1 = cc in omega arith
-
   abbrev answer : Out → Given
   answer o = o .answer
 
@@ -359,9 +352,9 @@ module _ (t : Tables) (so : Sound t) (size : ℕ) where
   afterwards m o = tables m (o .store) (o .frames) (o .bounds) (o .pointers)
 
   kept : Allocation t size → (p : ℕ) (m : Registers) → allocatedOf t size .answer ≡ given.Made p m → Sound (afterwards m (allocatedOf t size))
-  kept (fullAllocations a b) p m e = absurd (never-made allocationsFull p m (sym (ap answer a) ∙ e))
-  kept (fullBytes a b) p m e = absurd (never-made bytesFull p m (sym (ap answer a) ∙ e))
-  kept (fullPointers a b) p m e = absurd (never-made pointersFull p m (sym (ap answer a) ∙ e))
+  kept (fullAllocations a b) p m e = absurd (never-given allocationsFull p m (sym (ap answer a) ∙ e))
+  kept (fullBytes a b) p m e = absurd (never-given bytesFull p m (sym (ap answer a) ∙ e))
+  kept (fullPointers a b) p m e = absurd (never-given pointersFull p m (sym (ap answer a) ∙ e))
   kept (roomFor few room left a b) p m e =
       let f : given.Made (t .registers .pointers) (more (t .registers)) ≡ given.Made p m = sym (ap answer a) ∙ e in
       let g : more (t .registers) ≡ m = cc in
@@ -371,9 +364,9 @@ module _ (t : Tables) (so : Sound t) (size : ℕ) where
   allocate-sound = kept allocation
 
   numbered : Allocation t size → (p : ℕ) (m : Registers) → allocatedOf t size .answer ≡ given.Made p m → p ≡ length (view t .pointers)
-  numbered (fullAllocations a b) p m e = absurd (never-made allocationsFull p m (sym (ap answer a) ∙ e))
-  numbered (fullBytes a b) p m e = absurd (never-made bytesFull p m (sym (ap answer a) ∙ e))
-  numbered (fullPointers a b) p m e = absurd (never-made pointersFull p m (sym (ap answer a) ∙ e))
+  numbered (fullAllocations a b) p m e = absurd (never-given allocationsFull p m (sym (ap answer a) ∙ e))
+  numbered (fullBytes a b) p m e = absurd (never-given bytesFull p m (sym (ap answer a) ∙ e))
+  numbered (fullPointers a b) p m e = absurd (never-given pointersFull p m (sym (ap answer a) ∙ e))
   numbered (roomFor few room left a b) p m e =
       let f : given.Made (t .registers .pointers) (more (t .registers)) ≡ given.Made p m = sym (ap answer a) ∙ e in
       let g : p ≡ t .registers .pointers = cc in

@@ -1,16 +1,16 @@
 -- Fresh tables are sound, and the view of them is the fresh memory: every word is 0.
 use mathlib.Core.Path.{_≡_, refl, ap, _∙_}
 use mathlib.Core.List.{List, [], _∷_}
-use mathlib.Core.Bool.{Bool, true, _&&_}
+use mathlib.Core.Bool.{true}
 use mathlib.Core.Option.{none, some}
 use Prim.Native.Nat.{ℕ, _+_, _*_, _<_, zero, suc}
 use native.Mathlib.Omega.{arith}
 use lib.ListN.{getD, length, replicate, length-replicate}
 use borrow.Author.Tests.{eq-eqb}
-use Rattle.value.specs.Value.{tag}
+use Rattle.value.proofs.Truth.{and-true}
 use Rattle.memory.specs.Memory.{Frame, noFrame}
 use Rattle.memory.specs.Memory as M
-use Rattle.memory.specs.Stored.{greatestOf, storedValue}
+use Rattle.memory.specs.Stored.{storedValue}
 use Rattle.memory.specs.Tables.{Tables, tables, state, registers, storedOk, variableOk, registersOk, soundOf, ready, All, freshOf}
 use Rattle.memory.specs.View.{tab, variableIn, backIn, view, variablesIn}
 use Rattle.memory.specs.declared.Moved.the-variants as moved
@@ -18,6 +18,7 @@ use Rattle.memory.proofs.Every.{every-all}
 use Rattle.memory.proofs.Laws.{fresh-made}
 use Rattle.memory.proofs.Facts.{Sound, FrameSound, sound-test, ready-test}
 use Rattle.memory.proofs.Frames.{memory-same, allocations-none, above-top}
+use Rattle.memory.proofs.Stored.{stored-none}
 
 zeros : (n k : ℕ) → getD {A = ℕ} (replicate n 0) k 0 ≡ 0
 zeros zero k = refl
@@ -67,7 +68,7 @@ module _ (s f b p v : List ℕ) (ls : length s ≡ 32768) (lf : length f ≡ 260
       }
 
   zero-variable : (x : ℕ) → variableOk vs x ≡ true
-  unfolding variableOk storedOk greatestOf tag
+  unfolding variableOk storedOk
   zero-variable x = rw (zeros (length v) (x * 2), zeros (length v) (x * 2 + 1)) refl
 
   idle : registersOk 0 0 1 ≡ true
@@ -79,9 +80,6 @@ module _ (s f b p v : List ℕ) (ls : length s ≡ 32768) (lf : length f ≡ 260
   all-sound =
       and-true (sound-test t zero-sound)
       (and-true (eq-eqb (length vs) 512 (length-replicate (length v) 0 ∙ lv)) (and-true idle (every-all 256 (variableOk vs) (λ x h. zero-variable x))))
-    where
-      and-true : {a b : Bool} → a ≡ true → b ≡ true → (a && b) ≡ true
-      and-true p q = rw (p, q)
 
   fresh-seen : view t ≡ M.fresh
   unfolding view M.fresh tab
@@ -93,8 +91,8 @@ module _ (s f b p v : List ℕ) (ls : length s ≡ 32768) (lf : length f ≡ 260
       frame-eq a b c d = unfold variableIn in rw (a, b, c, d) refl
 
   none-set : (x : ℕ) → variablesIn vs x ≡ none
-  unfolding variablesIn storedValue
-  none-set x = rw (zeros (length v) (x * 2)) refl
+  unfolding variablesIn
+  none-set x = ap (λ (n : ℕ). storedValue n (getD vs (x * 2 + 1) 0)) (zeros (length v) (x * 2)) ∙ stored-none _
 
 -- Fresh memory: refused only for wrong lengths; else a sound state, idle at place 0, whose view is the fresh memory with no variable set.
 pub record Fresh (o : All) : Type 0 where

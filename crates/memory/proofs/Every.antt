@@ -1,6 +1,6 @@
 -- `every` as a loop meets it, one number after another, and as facts about each number.
 use mathlib.Core.Path.{_≡_, refl, ap, _∙_}
-use mathlib.Core.Bool.{Bool, true, false, _&&_}
+use mathlib.Core.Bool.{Bool, true, false, _&&_, and-false}
 use Prim.Native.Nat.{ℕ, zero, suc, _+_, _<_, _≤_}
 use native.Mathlib.Numerals.{add-one}
 use native.Mathlib.Nat.{not-suc-le-zero}
@@ -8,7 +8,7 @@ use native.Mathlib.Omega.{arith}
 use lib.Dec.{ltb}
 use borrow.Author.Tests.{ltb-true, ltb-false}
 use Rattle.memory.specs.Tables.{every}
-use Rattle.memory.proofs.Laws.{both-true}
+use Rattle.value.proofs.Truth.{both-true}
 
 pub by-test : {P : Type 0} (b : Bool) → (b ≡ true → P) → (b ≡ false → P) → P
 by-test true f g = f refl
@@ -32,10 +32,6 @@ every-at (suc n) f e i h =
     (λ t. let k : n ≤ i = ltb-false i n t in
     let q : i ≡ n = omega arith in
     ap f q ∙ x .1)
-
-and-false : (a : Bool) → (a && false) ≡ false
-and-false true = refl
-and-false false = refl
 
 pub every-not : (n : ℕ) (f : ℕ → Bool) (i : ℕ) → i < n → f i ≡ false → every n f ≡ false
 unfolding every

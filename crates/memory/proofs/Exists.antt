@@ -1,7 +1,7 @@
 -- Every believed machine that meets the list is the view of some sound tables: the tables are written down word by word, and read back.
 use mathlib.Core.Path.{_≡_, refl, ap, _∙_, sym}
-use mathlib.Core.List.{List, [], _∷_, _++_}
-use mathlib.Core.Bool.{Bool, true, false, not, _&&_, _||_}
+use mathlib.Core.List.{List, [], _∷_, _++_, flatten}
+use mathlib.Core.Bool.{Bool, true, false, _&&_, _||_}
 use mathlib.Core.Option.{Option, none, some}
 use Prim.Native.Nat.{ℕ, _+_, _*_, _-_, _/_, _%_, _<_, _≤_, zero, suc}
 use native.Mathlib.Numerals.{add-one}
@@ -11,21 +11,23 @@ use lib.ListN.{getD, length, replicate, length-append, length-replicate}
 use lib.Seq.{ext-getD}
 use lib.Dec.{ltb, leb, eqb}
 use borrow.Author.Tests.{ltb-true, ltb-false, leb-true, eqb-true, eq-eqb}
-use Rattle.value.specs.Value.{Value, Kind, value, tag, size, char, isScalar, isBadChar}
+use Rattle.value.specs.Value.{Value, tag}
 use Rattle.value.specs.Value as kind
+use Rattle.value.proofs.Truth.{both-true, and-true}
 use Rattle.memory.specs.Memory.{Back, Frame, Pointer, constant, local, Memory, noFrame, frameAt, liveCount, liveBytes}
 use Rattle.memory.specs.Memory as M
-use Rattle.memory.specs.Stored.{kindAt, valueIn, greatest, greatestOf, storedValue}
-use Rattle.memory.specs.Sound.{rising, goodVar, goodBack, goodBacks, soundMemory, goodValue, goodVars, soundMachine, inKind, typed}
+use Rattle.memory.specs.Stored.{storedValue}
+use Rattle.memory.specs.Sound.{rising, goodVar, goodBack, goodBacks, soundMemory, goodVars, soundMachine, inKind, typed}
 use Rattle.memory.specs.Tables.{Tables, tables, State, state, registers, every, live, pointer, pointerAt, pointerOk, pointersOk, storedOk, variableOk, registersOk, memoryOk, soundOf}
 use Rattle.memory.specs.View.{tab, part, bytesOf, allocationsIn, variableIn, frameIn, pointerIn, view, runningIn, variablesIn}
 use Rattle.memory.specs.declared.PointerRecord.{PointerRecord}
+use Rattle.memory.specs.Flat.{startOf, allOf, firstOf}
 use Rattle.memory.proofs.Every.{by-test, every-all}
 use Rattle.memory.proofs.Tab.{getD-tab, length-tab, tab-same}
-use Rattle.memory.proofs.Laws.{both-true}
 use Rattle.memory.proofs.Facts.{Sound, FrameSound, sound-test}
 use Rattle.memory.proofs.Frames.{memory-same, above-next, above-top}
-use Rattle.memory.proofs.Flat.{flat, startOf, allOf, firstOf, start-zero, start-next, first-zero, first-next, length-flat, length-all, all-count, all-bytes, bytes-flat, all-at}
+use Rattle.memory.proofs.Flat.{start-zero, start-next, first-zero, first-next, length-flat, length-all, all-count, all-bytes, bytes-flat, all-at}
+use Rattle.memory.proofs.Stored.{stored-ok, stored-value, stored-none}
 
 -- ---- tables of records
 
@@ -50,17 +52,18 @@ tab-list l d = ext-getD d (tab (length l) (λ i. getD l i d)) l (length-tab (len
 
 -- ---- codes
 
-variableOut : Option ℕ → ℕ
+-- a variable + 1, or 0 for none
+abbrev pub variableOut : Option ℕ → ℕ
 variableOut none = 0
 variableOut (some x) = suc x
 
-variable-back : (v : Option ℕ) → variableIn (variableOut v) ≡ v
-unfolding variableOut variableIn
+pub variable-back : (v : Option ℕ) → variableIn (variableOut v) ≡ v
+unfolding variableIn
 variable-back none = refl
 variable-back (some x) = refl
 
 variable-small : (v : Option ℕ) → goodVar v ≡ true → variableOut v ≤ 256
-unfolding variableOut goodVar
+unfolding goodVar
 variable-small none e = omega arith
 variable-small (some x) e = let h : x < 256 = ltb-true _ _ e in omega arith
 
@@ -103,27 +106,10 @@ valueWordOf : Option Value → ℕ → ℕ
 valueWordOf v zero = tagOut v
 valueWordOf v (suc c) = bitsOut v
 
-kind-back : (k : Kind) → kindAt (tag k) ≡ some k
-unfolding tag
-kind-back kind.bool = refl
-kind-back kind.u8 = refl
-kind-back kind.u16 = refl
-kind-back kind.u32 = refl
-kind-back kind.u64 = refl
-kind-back kind.i8 = refl
-kind-back kind.i16 = refl
-kind-back kind.i32 = refl
-kind-back kind.i64 = refl
-kind-back kind.f32 = refl
-kind-back kind.f64 = refl
-kind-back kind.char = refl
-kind-back kind.asn = refl
-kind-back kind.pointer = refl
-
 value-back : (v : Option Value) → storedValue (tagOut v) (bitsOut v) ≡ v
-unfolding tagOut bitsOut storedValue
-value-back none = refl
-value-back (some v) = ap (λ k. valueIn k (v .bits)) (kind-back (v .kind))
+unfolding tagOut bitsOut
+value-back none = stored-none 0
+value-back (some v) = stored-value (v .kind) (v .bits)
 
 -- ---- ids that rise, and good backs, frame by frame
 
@@ -165,7 +151,7 @@ flag-back false = refl
 abbrev tablesOf : Memory → (running : Bool) → (place : ℕ) → Tables
 tablesOf m running place =
     tables (registers (flagOut running) place (m .counter) (length (m .frames)) (length (m .pointers)))
-    (flat (allOf (m .frames)) ++ replicate (32768 - length (flat (allOf (m .frames)))) 0)
+    (flatten (allOf (m .frames)) ++ replicate (32768 - length (flatten (allOf (m .frames)))) 0)
     (records 4 260 (frameWordOf (m .frames)))
     (tab 513 (startOf (allOf (m .frames))))
     (records 5 20480 (λ p. pointerWordOf (pointerOut (M.pointerAt m p))))
@@ -324,8 +310,8 @@ module _ (m : Memory) (g : Good m) (running : Bool) (place : ℕ) where
       let f = few-all in
       let fl = length-flat ls in
       let ba = bytes-all in
-      let r : length {A = ℕ} (replicate (32768 - length (flat ls)) 0) ≡ 32768 - length (flat ls) = length-replicate (32768 - length (flat ls)) 0 in
-      let la = length-append (flat ls) (replicate (32768 - length (flat ls)) 0) in
+      let r : length {A = ℕ} (replicate (32768 - length (flatten ls)) 0) ≡ 32768 - length (flatten ls) = length-replicate (32768 - length (flatten ls)) 0 in
+      let la = length-append (flatten ls) (replicate (32768 - length (flatten ls)) 0) in
       record {
         ready = record {
           store = omega arith;
@@ -365,7 +351,7 @@ module _ (m : Memory) (g : Good m) (running : Bool) (place : ℕ) where
       let y : getD (t .bounds) (k + 1) 0 ≡ startOf ls k + length (getD ls k []) = bound-is (k + 1) (omega arith) ∙ ap (startOf ls) (add-one k) ∙ start-next ls k in
       let z : getD (t .bounds) (k + 1) 0 - getD (t .bounds) k 0 ≡ length (getD ls k []) = omega arith in
       ap (λ n. part (t .store) (getD (t .bounds) k 0) n) z ∙ ap (λ n. part (t .store) n (length (getD ls k []))) x
-      ∙ bytes-flat ls (replicate (32768 - length (flat ls)) 0) k h
+      ∙ bytes-flat ls (replicate (32768 - length (flatten ls)) 0) k h
 
   allocations-back : (i : ℕ) → i < length fs → allocationsIn (t .bounds) (t .store) (getD (t .frames) (i * 4 + 3) 0) (getD (t .frames) (i * 4 + 7) 0) ≡ frameAt fs i .allocations
   unfolding allocationsIn
@@ -417,45 +403,10 @@ unfolding variablesIn
 variables-back vs x h =
     ap (λ n. storedValue n (getD (variablesOf vs) (x * 2 + 1) 0)) (tag-is vs x h) ∙ ap (storedValue (tagOut (vs x))) (bits-is vs x h) ∙ value-back (vs x)
 
-scalar-of : (b : Bool) → not (true && not b) ≡ true → b ≡ true
-scalar-of true e = refl
-scalar-of false e = e
-
-and-true : {a b : Bool} → a ≡ true → b ≡ true → (a && b) ≡ true
-and-true p q = rw (p, q)
-
-value-ok : (k : Kind) (b : ℕ) → not (isBadChar (value k b)) ≡ true → leb b (greatest k) ≡ true → storedOk (tag k) b ≡ true
-unfolding storedOk isBadChar greatestOf tag size
-value-ok kind.bool b e f = and-true f refl
-value-ok kind.u8 b e f = and-true f refl
-value-ok kind.u16 b e f = and-true f refl
-value-ok kind.u32 b e f = and-true f refl
-value-ok kind.u64 b e f = and-true f refl
-value-ok kind.i8 b e f = and-true f refl
-value-ok kind.i16 b e f = and-true f refl
-value-ok kind.i32 b e f = and-true f refl
-value-ok kind.i64 b e f = and-true f refl
-value-ok kind.f32 b e f = and-true f refl
-value-ok kind.f64 b e f = and-true f refl
-value-ok kind.char b e f = and-true f (scalar-of (isScalar b) e)
-value-ok kind.asn b e f = and-true f refl
-value-ok kind.pointer b e f = and-true f refl
-
-stored-ok : (v : Option Value) → goodValue v ≡ true → inKind v ≡ true → storedOk (tagOut v) (bitsOut v) ≡ true
-unfolding tagOut bitsOut goodValue inKind tag
-stored-ok none e f = unfold storedOk greatestOf in refl
-stored-ok (some v) e f = value-ok (v .kind) (v .bits) e f
-
-vars-at : (vs : ℕ → Option Value) (n : ℕ) → goodVars vs n ≡ true → (x : ℕ) → x < n → goodValue (vs x) ≡ true
-unfolding goodVars
-vars-at vs zero e x h = absurd (not-suc-le-zero h)
-vars-at vs (suc n) e x h =
-    let a = both-true (goodValue (vs n)) (goodVars vs n) e in
-    by-test (ltb x n)
-    (λ w. vars-at vs n (a .1) x (ltb-true _ _ w))
-    (λ w. let k : n ≤ x = ltb-false _ _ w in
-    let q : x ≡ n = omega arith in
-    ap (λ y. goodValue (vs y)) q ∙ a .0)
+value-ok : (v : Option Value) → inKind v ≡ true → storedOk (tagOut v) (bitsOut v) ≡ true
+unfolding tagOut bitsOut inKind
+value-ok none e = unfold storedOk in refl
+value-ok (some v) e = stored-ok (v .kind) (v .bits) ∙ e
 
 typed-at : (vs : ℕ → Option Value) (n : ℕ) → typed vs n ≡ true → (x : ℕ) → x < n → inKind (vs x) ≡ true
 unfolding typed
@@ -468,10 +419,10 @@ typed-at vs (suc n) e x h =
     let q : x ≡ n = omega arith in
     ap (λ y. inKind (vs y)) q ∙ a .0)
 
-variable-ok : (vs : ℕ → Option Value) (x : ℕ) → x < 256 → goodValue (vs x) ≡ true → inKind (vs x) ≡ true → variableOk (variablesOf vs) x ≡ true
+variable-ok : (vs : ℕ → Option Value) (x : ℕ) → x < 256 → inKind (vs x) ≡ true → variableOk (variablesOf vs) x ≡ true
 unfolding variableOk
-variable-ok vs x h e f =
-    ap (λ n. storedOk n (getD (variablesOf vs) (x * 2 + 1) 0)) (tag-is vs x h) ∙ ap (storedOk (tagOut (vs x))) (bits-is vs x h) ∙ stored-ok (vs x) e f
+variable-ok vs x h f =
+    ap (λ n. storedOk n (getD (variablesOf vs) (x * 2 + 1) 0)) (tag-is vs x h) ∙ ap (storedOk (tagOut (vs x))) (bits-is vs x h) ∙ value-ok (vs x) f
 
 registers-ok : (running : Bool) (place depth : ℕ) → leb place 4096 ≡ true → (running || eqb depth 1) ≡ true → registersOk (flagOut running) place depth ≡ true
 unfolding registersOk flagOut
@@ -500,7 +451,7 @@ every-sound m running place vs e f =
     record {
       state = state (tablesOf m running place) (variablesOf vs);
       sound = built (sound-test (tablesOf m running place) (built-sound m g running place)) (registers-ok running place (length (m .frames)) (b .0) (c .1))
-          (every-all 256 (variableOk (variablesOf vs)) (λ x h. variable-ok vs x h (vars-at vs 256 (c .0) x h) (typed-at vs 256 f x h)));
+          (every-all 256 (variableOk (variablesOf vs)) (λ x h. variable-ok vs x h (typed-at vs 256 f x h)));
       memory = view-back m g running place;
       runs = flag-back running;
       next = refl;

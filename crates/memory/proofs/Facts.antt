@@ -8,9 +8,10 @@ use lib.ListN.{getD, length}
 use lib.Dec.{ltb, leb, eqb}
 use borrow.Author.Tests.{ltb-true, leb-true, eqb-true, eqb-false, le-leb, eq-eqb, not-true}
 use Rattle.memory.specs.Tables.{Tables, ready, readyOf, live, every, idAbove, frameOk, boundOk, pointersOk, endsOk, allocationsOk, memoryOk}
-use Rattle.memory.proofs.Laws.{both-true, Ready, ready-of}
+use Rattle.memory.proofs.Laws.{Ready, ready-of}
 use Rattle.memory.proofs.Every.{every-at, every-all}
 use Rattle.memory.proofs.Last.{frame-last, memory-last}
+use Rattle.value.proofs.Truth.{both-true}
 
 pub record FrameSound (fr : List ℕ) (d counter i : ℕ) : Type 0 where
   pub id : getD fr (i * 4) 0 < idAbove fr d counter i

@@ -1,6 +1,6 @@
 -- The allocations of a stack end to end in one store, and where each begins.
 use mathlib.Core.Path.{_≡_, refl, ap, _∙_}
-use mathlib.Core.List.{List, [], _∷_, _++_, map, append-assoc}
+use mathlib.Core.List.{List, [], _∷_, _++_, map, append-assoc, flatten}
 use Prim.Native.Nat.{ℕ, _+_, _<_, zero, suc}
 use native.Mathlib.Nat.{not-suc-le-zero, le-of-suc-le-suc}
 use native.Mathlib.Omega.{arith}
@@ -8,26 +8,7 @@ use lib.ListN.{getD, length, length-append, List·getD-append}
 use lib.Seq.{getD-append-add, take-append-seam, drop-append-add}
 use Rattle.memory.specs.Memory.{Frame, frameAt, sum, liveCount, liveBytes}
 use Rattle.memory.specs.View.{part}
-
-unfoldable pub flat : List (List ℕ) → List ℕ
-flat [] = []
-flat (l ∷ ls) = l ++ flat ls
-
--- where the k-th begins
-unfoldable pub startOf : List (List ℕ) → ℕ → ℕ
-startOf ls zero = 0
-startOf [] (suc k) = 0
-startOf (l ∷ ls) (suc k) = length l + startOf ls k
-
--- all allocations that live, and how many lie in the frames below the i-th
-unfoldable pub allOf : List Frame → List (List ℕ)
-allOf [] = []
-allOf (f ∷ fs) = f .allocations ++ allOf fs
-
-unfoldable pub firstOf : List Frame → ℕ → ℕ
-firstOf fs zero = 0
-firstOf [] (suc i) = 0
-firstOf (f ∷ fs) (suc i) = length (f .allocations) + firstOf fs i
+use Rattle.memory.specs.Flat.{startOf, allOf, firstOf}
 
 pub start-zero : (ls : List (List ℕ)) → startOf ls 0 ≡ 0
 unfolding startOf
@@ -53,10 +34,10 @@ first-next [] (suc i) = refl
 first-next (f ∷ fs) zero = let z = first-zero fs in omega arith
 first-next (f ∷ fs) (suc i) = let e = first-next fs i in omega arith
 
-pub length-flat : (ls : List (List ℕ)) → length (flat ls) ≡ startOf ls (length ls)
-unfolding flat startOf
+pub length-flat : (ls : List (List ℕ)) → length (flatten ls) ≡ startOf ls (length ls)
+unfolding flatten startOf
 length-flat [] = refl
-length-flat (l ∷ ls) = length-append l (flat ls) ∙ ap (λ n. length l + n) (length-flat ls)
+length-flat (l ∷ ls) = length-append l (flatten ls) ∙ ap (λ n. length l + n) (length-flat ls)
 
 pub length-all : (fs : List Frame) → length (allOf fs) ≡ firstOf fs (length fs)
 unfolding allOf firstOf
@@ -69,26 +50,26 @@ unfolding firstOf liveCount sum
 all-count [] = refl
 all-count (f ∷ fs) = ap (λ n. length (f .allocations) + n) (all-count fs)
 
-flat-append : (ls ks : List (List ℕ)) → flat (ls ++ ks) ≡ flat ls ++ flat ks
-unfolding flat
+flat-append : (ls ks : List (List ℕ)) → flatten (ls ++ ks) ≡ flatten ls ++ flatten ks
+unfolding flatten
 flat-append [] ks = refl
 flat-append (x ∷ ls) ks = rw (flat-append ls ks, append-assoc)
 
-flat-sum : (ls : List (List ℕ)) → length (flat ls) ≡ sum (map length ls)
-unfolding flat sum
+flat-sum : (ls : List (List ℕ)) → length (flatten ls) ≡ sum (map length ls)
+unfolding flatten sum
 flat-sum [] = refl
 flat-sum (x ∷ ls) = rw (length-append, flat-sum ls)
 
-pub all-bytes : (fs : List Frame) → length (flat (allOf fs)) ≡ liveBytes fs
+pub all-bytes : (fs : List Frame) → length (flatten (allOf fs)) ≡ liveBytes fs
 unfolding liveBytes allOf sum
-all-bytes [] = unfold flat in refl
+all-bytes [] = unfold flatten in refl
 all-bytes (f ∷ fs) = rw (flat-append, length-append, flat-sum (f .allocations), all-bytes fs)
 
 -- the bytes of the k-th lie where it begins, whatever lies behind them all
-pub bytes-flat : (ls : List (List ℕ)) (rest : List ℕ) (k : ℕ) → k < length ls → part (flat ls ++ rest) (startOf ls k) (length (getD ls k [])) ≡ getD ls k []
-unfolding startOf flat
+pub bytes-flat : (ls : List (List ℕ)) (rest : List ℕ) (k : ℕ) → k < length ls → part (flatten ls ++ rest) (startOf ls k) (length (getD ls k [])) ≡ getD ls k []
+unfolding startOf flatten
 bytes-flat [] rest k h = absurd (not-suc-le-zero h)
-bytes-flat (x ∷ ls) rest zero h = rw append-assoc (take-append-seam x (flat ls ++ rest))
+bytes-flat (x ∷ ls) rest zero h = rw append-assoc (take-append-seam x (flatten ls ++ rest))
 bytes-flat (x ∷ ls) rest (suc k) h = rw (append-assoc, drop-append-add) (bytes-flat ls rest k (le-of-suc-le-suc h))
 
 -- the j-th allocation of frame i among all

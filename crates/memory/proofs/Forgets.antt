@@ -9,24 +9,25 @@ use native.Mathlib.Omega.{arith}
 use lib.ListN.{getD, length}
 use lib.Dec.{ltb, leb, eqb}
 use borrow.Author.Tests.{ltb-true, ltb-false, leb-true, leb-false, eqb-true}
-use Rattle.value.specs.Value.{Value, Kind, value, tag}
+use Rattle.value.specs.Value.{Value, value, tag}
 use Rattle.value.specs.Value as kind
+use Rattle.value.proofs.Truth.{both-true}
 use Rattle.memory.specs.Memory as M
 use Rattle.memory.specs.Tables as T
 use Rattle.memory.specs.Memory.{Frame, constant, local, Memory, noFrame}
-use Rattle.memory.specs.Stored.{kindAt, valueIn, greatestOf, storedValue}
-use Rattle.memory.specs.Tables.{Tables, State, every, live, bound, pointer, pointerAt, pointerOk, storedOk, variableOk, registersOk, memoryOk, soundOf}
+use Rattle.memory.specs.Stored.{storedValue}
+use Rattle.memory.specs.Tables.{Tables, State, every, live, bound, pointerAt, pointerOk, storedOk, variableOk, registersOk, memoryOk, soundOf}
 use Rattle.memory.specs.View.{bytesOf, allocationsIn, variableIn, frameIn, pointerIn, view, runningIn, variablesIn}
 use Rattle.memory.specs.declared.Registers.{Registers}
 use Rattle.memory.specs.declared.PointerRecord.{PointerRecord}
 use Rattle.memory.proofs.Every.{by-test, every-at}
 use Rattle.memory.proofs.Tab.{part-at}
-use Rattle.memory.proofs.Laws.{both-true}
 use Rattle.memory.proofs.Facts.{Sound, sound-of}
 use Rattle.memory.proofs.Frames.{end-live}
-use Rattle.memory.proofs.Pointers.{count-seen, pointer-seen, kind-at}
+use Rattle.memory.proofs.Pointers.{count-seen, pointer-seen, kind-at, pointer-record}
 use Rattle.memory.proofs.Counts.{length-allocations, length-bytes}
 use Rattle.memory.proofs.Access.{depth-is, frame-is, bytes-are}
+use Rattle.memory.proofs.Stored.{Stores, unset, valued, stores, stored-value, stored-none}
 
 -- ---- codes
 
@@ -36,9 +37,6 @@ variable-same zero zero e = refl
 variable-same zero (suc w) e = let z : _≡_ {A = ℕ} 0 1 = cc in absurd (omega arith)
 variable-same (suc v) zero e = let z : _≡_ {A = ℕ} 0 1 = cc in absurd (omega arith)
 variable-same (suc v) (suc w) e = let z : v ≡ w = cc in ap suc z
-
-pointer-record : {a a′ b b′ c c′ d d′ e e′ : ℕ} → a ≡ a′ → b ≡ b′ → c ≡ c′ → d ≡ d′ → e ≡ e′ → pointer a b c d e ≡ pointer a′ b′ c′ d′ e′
-pointer-record p q r s t = cc
 
 constant-fields : (q : PointerRecord) → eqb (q .kind) 0 ≡ false → pointerOk q ≡ true → (q .kind ≡ 1) × (q .id ≡ 0) × (q .allocation ≡ 0) × (q .offset ≡ 0)
 unfolding pointerOk
@@ -182,80 +180,22 @@ module _ (t u : Tables) (so : Sound t) (so′ : Sound u) (e : view t ≡ view u)
 
 -- ---- variables
 
-nothing : {k : Kind} → _≡_ {A = Option Kind} none (some k) → ⊥
-nothing e = let z : _≡_ {A = ℕ} 0 1 = cc in omega arith
-
--- a tag's kind has that tag
-pub kind-tag : (t : ℕ) (k : Kind) → kindAt t ≡ some k → tag k ≡ t
-unfolding tag
-kind-tag zero k e = absurd (nothing e)
-kind-tag (suc zero) k e = let z : k ≡ kind.bool = cc in ap tag z
-kind-tag (suc (suc zero)) k e = let z : k ≡ kind.u8 = cc in ap tag z
-kind-tag (suc (suc (suc zero))) k e = let z : k ≡ kind.u16 = cc in ap tag z
-kind-tag (suc (suc (suc (suc zero)))) k e = let z : k ≡ kind.u32 = cc in ap tag z
-kind-tag (suc (suc (suc (suc (suc zero))))) k e = let z : k ≡ kind.u64 = cc in ap tag z
-kind-tag (suc (suc (suc (suc (suc (suc zero)))))) k e = let z : k ≡ kind.i8 = cc in ap tag z
-kind-tag (suc (suc (suc (suc (suc (suc (suc zero))))))) k e = let z : k ≡ kind.i16 = cc in ap tag z
-kind-tag (suc (suc (suc (suc (suc (suc (suc (suc zero)))))))) k e = let z : k ≡ kind.i32 = cc in ap tag z
-kind-tag (suc (suc (suc (suc (suc (suc (suc (suc (suc zero))))))))) k e = let z : k ≡ kind.i64 = cc in ap tag z
-kind-tag (suc (suc (suc (suc (suc (suc (suc (suc (suc (suc zero)))))))))) k e = let z : k ≡ kind.f32 = cc in ap tag z
-kind-tag (suc (suc (suc (suc (suc (suc (suc (suc (suc (suc (suc zero))))))))))) k e = let z : k ≡ kind.f64 = cc in ap tag z
-kind-tag (suc (suc (suc (suc (suc (suc (suc (suc (suc (suc (suc (suc zero)))))))))))) k e = let z : k ≡ kind.char = cc in ap tag z
-kind-tag (suc (suc (suc (suc (suc (suc (suc (suc (suc (suc (suc (suc (suc zero))))))))))))) k e = let z : k ≡ kind.asn = cc in ap tag z
-kind-tag (suc (suc (suc (suc (suc (suc (suc (suc (suc (suc (suc (suc (suc (suc zero)))))))))))))) k e = let z : k ≡ kind.pointer = cc in ap tag z
-kind-tag (suc (suc (suc (suc (suc (suc (suc (suc (suc (suc (suc (suc (suc (suc (suc t))))))))))))))) k e = absurd (nothing e)
-
-something : {k : Kind} → _≡_ {A = Option Kind} (some k) none → ⊥
-something e = let z : _≡_ {A = ℕ} 0 1 = cc in omega arith
-
--- of the tags up to 14, only 0 is of no kind
-pub no-kind : (t : ℕ) → t ≤ 14 → kindAt t ≡ none → t ≡ 0
-no-kind zero h e = refl
-no-kind (suc zero) h e = absurd (something e)
-no-kind (suc (suc zero)) h e = absurd (something e)
-no-kind (suc (suc (suc zero))) h e = absurd (something e)
-no-kind (suc (suc (suc (suc zero)))) h e = absurd (something e)
-no-kind (suc (suc (suc (suc (suc zero))))) h e = absurd (something e)
-no-kind (suc (suc (suc (suc (suc (suc zero)))))) h e = absurd (something e)
-no-kind (suc (suc (suc (suc (suc (suc (suc zero))))))) h e = absurd (something e)
-no-kind (suc (suc (suc (suc (suc (suc (suc (suc zero)))))))) h e = absurd (something e)
-no-kind (suc (suc (suc (suc (suc (suc (suc (suc (suc zero))))))))) h e = absurd (something e)
-no-kind (suc (suc (suc (suc (suc (suc (suc (suc (suc (suc zero)))))))))) h e = absurd (something e)
-no-kind (suc (suc (suc (suc (suc (suc (suc (suc (suc (suc (suc zero))))))))))) h e = absurd (something e)
-no-kind (suc (suc (suc (suc (suc (suc (suc (suc (suc (suc (suc (suc zero)))))))))))) h e = absurd (something e)
-no-kind (suc (suc (suc (suc (suc (suc (suc (suc (suc (suc (suc (suc (suc zero))))))))))))) h e = absurd (something e)
-no-kind (suc (suc (suc (suc (suc (suc (suc (suc (suc (suc (suc (suc (suc (suc zero)))))))))))))) h e = absurd (something e)
-no-kind (suc (suc (suc (suc (suc (suc (suc (suc (suc (suc (suc (suc (suc (suc (suc t))))))))))))))) h e = absurd (omega arith)
-
-stored-facts : (t b : ℕ) → storedOk t b ≡ true → (t ≤ 14) × (b ≤ greatestOf t)
-unfolding storedOk
-stored-facts t b e =
-    let x = both-true (leb t 14) _ e in
-    let y = both-true (leb b (greatestOf t)) _ (x .1) in
-    (leb-true _ _ (x .0), leb-true _ _ (y .0))
-
-unset-bits : (t b : ℕ) → t ≡ 0 → b ≤ greatestOf t → b ≡ 0
-unfolding greatestOf
-unset-bits t b e h = let k : b ≤ 0 = rw e at h in omega arith
-
 pub stored-same : (t b t′ b′ : ℕ) → storedOk t b ≡ true → storedOk t′ b′ ≡ true → storedValue t b ≡ storedValue t′ b′ → (t ≡ t′) × (b ≡ b′)
-unfolding storedValue
-stored-same t b t′ b′ h h′ e = by-kinds (kindAt t) (kindAt t′) refl refl e
+stored-same t b t′ b′ h h′ e = by-kinds (stores t b h) (stores t′ b′ h′)
   where
-    by-kinds : (o o′ : Option Kind) → kindAt t ≡ o → kindAt t′ ≡ o′ → valueIn o b ≡ valueIn o′ b′ → (t ≡ t′) × (b ≡ b′)
-    by-kinds none none p p′ q =
-        let f = stored-facts t b h in
-        let f′ = stored-facts t′ b′ h′ in
-        let z = no-kind t (f .0) p in
-        let z′ = no-kind t′ (f′ .0) p′ in
-        (z ∙ sym z′, unset-bits t b z (f .1) ∙ sym (unset-bits t′ b′ z′ (f′ .1)))
-    by-kinds none (some k) p p′ q = let z : _≡_ {A = ℕ} 0 1 = cc in absurd (omega arith)
-    by-kinds (some k) none p p′ q = let z : _≡_ {A = ℕ} 0 1 = cc in absurd (omega arith)
-    by-kinds (some k) (some k′) p p′ q =
+    never : {v : Value} → _≡_ {A = Option Value} none (some v) → _≡_ {A = ℕ} 0 1
+    never e = cc
+
+    by-kinds : Stores t b → Stores t′ b′ → (t ≡ t′) × (b ≡ b′)
+    by-kinds (unset z y) (unset z′ y′) = (z ∙ sym z′, y ∙ sym y′)
+    by-kinds (unset z y) (valued k z′ g) =
+        let o : _≡_ {A = ℕ} 0 1 = never (sym (ap (λ n. storedValue n b) z ∙ stored-none b) ∙ e ∙ ap (λ n. storedValue n b′) z′ ∙ stored-value k b′) in absurd (omega arith)
+    by-kinds (valued k z g) (unset z′ y) =
+        let o : _≡_ {A = ℕ} 0 1 = never (sym (ap (λ n. storedValue n b′) z′ ∙ stored-none b′) ∙ sym e ∙ ap (λ n. storedValue n b) z ∙ stored-value k b) in absurd (omega arith)
+    by-kinds (valued k z g) (valued k′ z′ g′) =
+        let f : some (value k b) ≡ some (value k′ b′) = sym (ap (λ n. storedValue n b) z ∙ stored-value k b) ∙ e ∙ ap (λ n. storedValue n b′) z′ ∙ stored-value k′ b′ in
         let x : value k b ≡ value k′ b′ = cc in
-        let y : k ≡ k′ = ap (λ (w : Value). w .kind) x in
-        let z : b ≡ b′ = ap (λ (w : Value). w .bits) x in
-        (sym (kind-tag t k p) ∙ ap tag y ∙ kind-tag t′ k′ p′, z)
+        (z ∙ ap (λ (w : Value). tag (w .kind)) x ∙ sym z′, ap (λ (w : Value). w .bits) x)
 
 -- ---- the whole state
 

@@ -381,9 +381,6 @@ pop-kept t so h =
           first = f .first;
         }
 
-never-popped : (p v n : ℕ) (m : Registers) → poppedly.Refused n ≡ poppedly.Frame p v m → ⊥
-never-popped p v n m e = let z : _≡_ {A = ℕ} 0 1 = cc in omega arith
-
 never-root : (p v : ℕ) (m : Registers) → poppedly.Root ≡ poppedly.Frame p v m → ⊥
 never-root p v m e = let z : _≡_ {A = ℕ} 0 1 = cc in omega arith
 

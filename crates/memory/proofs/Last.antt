@@ -7,7 +7,7 @@ use lib.ListN.{getD}
 use lib.Dec.{leb}
 use borrow.Author.Tests.{lt-ltb, le-leb, ne-eqb, leb-true}
 use Rattle.memory.specs.Tables.{Tables, ready, live, frameWord, every, idAbove, frameOk, pointersOk, endsOk, allocationsOk, memoryOk, roomyOf}
-use Rattle.memory.proofs.Laws.{both-true}
+use Rattle.value.proofs.Truth.{both-true}
 
 pub frame-last : (fr : List ℕ) (d counter i : ℕ) → getD fr (i * 4) 0 < idAbove fr d counter i → frameWord fr i 1 ≤ 4096 → frameWord fr i 2 ≤ 256
     → frameOk fr d counter i ≡ leb (frameWord fr i 3) (frameWord fr i 7)

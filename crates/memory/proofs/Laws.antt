@@ -1,7 +1,7 @@
 -- What the tests of the tables' definitions show, read off a chosen answer one test after another.
 use mathlib.Core.Path.{_≡_, refl, sym, ap}
 use mathlib.Core.List.{List}
-use mathlib.Core.Bool.{Bool, true, false, _&&_}
+use mathlib.Core.Bool.{Bool, true, false}
 use Prim.Native.Nat.{ℕ, _+_, _-_, _*_, _/_, _<_, _≤_}
 use native.Mathlib.Omega.{arith}
 use lib.ListN.{getD, length}
@@ -9,6 +9,7 @@ use lib.Dec.{ltb, leb, eqb}
 use borrow.Author.Tests.{eqb-true, eqb-false, ltb-false, leb-true, leb-false, eq-eqb, ne-eqb, le-ltb, le-leb, lt-leb}
 use Rattle.value.specs.Answer.{pick}
 use Rattle.value.specs.Refusal.{notSound, notGivenOut, throughConstant, frameGone, noAllocation, beyondLength, misaligned, allocationsFull, bytesFull, pointersFull, noConstant}
+use Rattle.value.proofs.Truth.{both-true}
 use Rattle.memory.specs.Tables.{Tables, ready, readyOf, roomOf, live, topFirst, bound, freshOf, cleared, all, tables, registers, Out, out, made, unmade, allocatedOf, withinOf, alignedOf, rankedOf, standingOf, localOf, accessedAt, fromStore, readAccessOf, writeAccessOf, forWrite, constantAccessOf, pointerAt, frameWord}
 use Rattle.memory.specs.declared.PointerRecord.{PointerRecord}
 use Rattle.memory.specs.declared.Moved.{Moved}
@@ -26,13 +27,6 @@ skip false x y z e n = (refl, e)
 pub keep : {A : Type 0} (b : Bool) (x y z : A) → pick b x y ≡ z → (y ≡ z → ⊥) → (b ≡ true) × (x ≡ z)
 keep true x y z e n = (refl, e)
 keep false x y z e n = absurd (n e)
-
-pub no : _≡_ {A = Bool} false true → ⊥
-no e = let y : _≡_ {A = ℕ} 0 1 = cc in omega arith
-
-pub both-true : (a b : Bool) → (a && b) ≡ true → (a ≡ true) × (b ≡ true)
-both-true true b e = (refl, e)
-both-true false b e = absurd (no e)
 
 -- ---- ready
 

@@ -14,7 +14,7 @@ pub mod Last
 pub mod Laws
 pub mod Listing
 pub mod Lists
-pub mod One
 pub mod Pointers
+pub mod Stored
 pub mod Tab
 pub mod Whole

@@ -11,6 +11,7 @@ use lib.Dec.{ltb, leb, eqb}
 use borrow.Author.Tests.{leb-true, leb-false, eqb-true, eqb-false, lt-ltb, le-ltb}
 use Rattle.value.specs.Answer.{Answer, ok, refused, need}
 use Rattle.value.specs.Refusal.{throughConstant, frameGone, noAllocation, beyondLength, misaligned}
+use Rattle.value.proofs.Truth.{both-true, no}
 use Rattle.memory.specs.Memory.{Frame, Pointer, constant, local, Memory, stands, divides, access, written, writeAt, writeBytes, livePointer, liveList}
 use Rattle.memory.specs.Memory as M
 use Rattle.memory.specs.Live.{listed}
@@ -20,7 +21,6 @@ use Rattle.memory.specs.declared.PointerRecord.{PointerRecord}
 use Rattle.memory.specs.declared.LiveRecord.{LiveRecord}
 use Rattle.memory.specs.declared.Outcome.the-variants as outcome
 use Rattle.memory.proofs.Every.{by-test}
-use Rattle.memory.proofs.Laws.{both-true, no}
 use Rattle.memory.proofs.Tab.{tab-same}
 use Rattle.memory.proofs.Facts.{Sound, ready-test}
 use Rattle.memory.proofs.Last.{roomy-of}

@@ -32,13 +32,20 @@ pointer-word l p v k h =
     ∙ getD-set-other b (p * 5 + 2) k (v .id) 0 (λ e. omega arith) ∙ getD-set-other a (p * 5 + 1) k (v .index) 0 (λ e. omega arith)
     ∙ getD-set-other l (p * 5) k (v .kind) 0 (λ e. omega arith)
 
-pub pointer-same : {a a′ b b′ c c′ d d′ e e′ : ℕ} → a ≡ a′ → b ≡ b′ → c ≡ c′ → d ≡ d′ → e ≡ e′ → pointer a b c d e ≡ pointer a′ b′ c′ d′ e′
-pointer-same p q r t u = cc
+pub pointer-record : {a a′ b b′ c c′ d d′ e e′ : ℕ} → a ≡ a′ → b ≡ b′ → c ≡ c′ → d ≡ d′ → e ≡ e′ → pointer a b c d e ≡ pointer a′ b′ c′ d′ e′
+pointer-record p q r t u = cc
+
+pub local-ok : (i f j o : ℕ) → pointerOk (pointer 0 i f j o) ≡ true
+unfolding pointerOk
+local-ok i f j o = refl
+
+pub never-given : (n p : ℕ) (m : Registers) → given.Refused n ≡ given.Made p m → ⊥
+never-given n p m e = let z : _≡_ {A = ℕ} 0 1 = cc in omega arith
 
 pub pointer-other : (l : List ℕ) (p : ℕ) (v : PointerRecord) (q : ℕ) → q < p → pointerAt (pointerSet l p v) q ≡ pointerAt l q
 unfolding pointerAt
 pointer-other l p v q h =
-    pointer-same (pointer-word l p v (q * 5) (omega arith)) (pointer-word l p v (q * 5 + 1) (omega arith)) (pointer-word l p v (q * 5 + 2) (omega arith))
+    pointer-record (pointer-word l p v (q * 5) (omega arith)) (pointer-word l p v (q * 5 + 1) (omega arith)) (pointer-word l p v (q * 5 + 2) (omega arith))
     (pointer-word l p v (q * 5 + 3) (omega arith)) (pointer-word l p v (q * 5 + 4) (omega arith))
 
 pub pointer-put : (l : List ℕ) (p : ℕ) (v : PointerRecord) → p * 5 + 4 < length l → pointerAt (pointerSet l p v) p ≡ v
@@ -52,7 +59,7 @@ pointer-put l p v h =
     let lb = length-set a (p * 5 + 1) (v .index) in
     let lc = length-set b (p * 5 + 2) (v .id) in
     let ld = length-set c (p * 5 + 3) (v .allocation) in
-    pointer-same
+    pointer-record
     (getD-set-other d (p * 5 + 4) (p * 5) (v .offset) 0 (λ e. omega arith) ∙ getD-set-other c (p * 5 + 3) (p * 5) (v .allocation) 0 (λ e. omega arith)
     ∙ getD-set-other b (p * 5 + 2) (p * 5) (v .id) 0 (λ e. omega arith) ∙ getD-set-other a (p * 5 + 1) (p * 5) (v .index) 0 (λ e. omega arith)
     ∙ getD-set-same l (p * 5) (v .kind) 0 (omega arith))
@@ -150,16 +157,9 @@ module _ (t : Tables) (so : Sound t) where
   unfolding pointerIn
   seen-constant q e = simp e
 
-  never-given : (n p : ℕ) (m : Registers) → given.Refused n ≡ given.Made p m → ⊥
-  never-given n p m e = let z : _≡_ {A = ℕ} 0 1 = cc in omega arith
-
   constant-ok : (k : ℕ) → pointerOk (pointer 1 k 0 0 0) ≡ true
   unfolding pointerOk
   constant-ok k = refl
-
-  local-ok : (i f j o : ℕ) → pointerOk (pointer 0 i f j o) ≡ true
-  unfolding pointerOk
-  local-ok i f j o = refl
 
   offset-constant : (k by : ℕ) → offsetAt (view t) (constant k) by ≡ refused throughConstant
   unfolding offsetAt

@@ -1,7 +1,7 @@
 -- A sound state's view meets the list of "A sound state": each test of the tables is read off the view.
 use mathlib.Core.Path.{_≡_, refl, ap, _∙_}
 use mathlib.Core.List.{List, [], _∷_, _++_}
-use mathlib.Core.Bool.{Bool, true, false, not, _&&_, _||_}
+use mathlib.Core.Bool.{true, _&&_, _||_}
 use mathlib.Core.Option.{Option, some}
 use Prim.Native.Nat.{ℕ, _+_, _*_, _<_, _≤_, zero, suc}
 use native.Mathlib.Numerals.{add-one}
@@ -9,22 +9,20 @@ use native.Mathlib.Omega.{arith}
 use lib.ListN.{getD, length}
 use lib.Dec.{ltb, leb, eqb}
 use borrow.Author.Tests.{lt-ltb, le-leb, eq-eqb}
-use Rattle.value.specs.Value.{Value, tag, size, isScalar, isBadChar}
+use Rattle.value.specs.Value.{Value}
+use Rattle.value.proofs.Truth.{both-true, and-true}
 use Rattle.memory.specs.Memory.{Frame}
-use Rattle.memory.specs.Stored.{greatestOf, storedValue}
+use Rattle.memory.specs.Stored.{storedValue}
 use Rattle.memory.specs.Sound.{rising, goodVar, goodBack, goodBacks, soundMemory, goodValue, goodVars, soundMachine, inKind, typed}
 use Rattle.memory.specs.Tables.{Tables, State, every, memoryOk, storedOk, variableOk, registersOk, soundOf}
 use Rattle.memory.specs.View.{tab, variableIn, backIn, frameIn, view, runningIn, variablesIn}
 use Rattle.memory.proofs.Every.{by-test, every-at}
-use Rattle.memory.proofs.Laws.{both-true}
 use Rattle.memory.proofs.Facts.{Sound, sound-of}
 use Rattle.memory.proofs.Frames.{above-next, above-top}
 use Rattle.memory.proofs.Pointers.{count-seen}
 use Rattle.memory.proofs.Counts.{count-live, bytes-live}
 use Rattle.memory.proofs.Access.{depth-is, frame-is}
-
-and-true : {a b : Bool} → a ≡ true → b ≡ true → (a && b) ≡ true
-and-true p q = rw (p, q)
+use Rattle.memory.proofs.Stored.{Stores, unset, valued, stores, stored-value, stored-none, no-bad-char}
 
 -- ---- ids that rise
 
@@ -107,29 +105,14 @@ memory-seen t so =
 
 -- ---- variables
 
-not-not : (b : Bool) → b ≡ true → not (true && not b) ≡ true
-not-not true e = refl
-not-not false e = e
-
 -- a stored value is a good one, and has the bits of its kind
 stored-good : (t b : ℕ) → storedOk t b ≡ true → (goodValue (storedValue t b) ≡ true) × (inKind (storedValue t b) ≡ true)
-unfolding storedOk storedValue goodValue inKind isBadChar greatestOf tag size
-stored-good zero b e = (refl, refl)
-stored-good (suc zero) b e = (refl, both-true (leb b 1) true e .0)
-stored-good (suc (suc zero)) b e = (refl, both-true (leb b 255) true e .0)
-stored-good (suc (suc (suc zero))) b e = (refl, both-true (leb b 65535) true e .0)
-stored-good (suc (suc (suc (suc zero)))) b e = (refl, both-true (leb b 4294967295) true e .0)
-stored-good (suc (suc (suc (suc (suc zero))))) b e = (refl, both-true (leb b 18446744073709551615) true e .0)
-stored-good (suc (suc (suc (suc (suc (suc zero)))))) b e = (refl, both-true (leb b 255) true e .0)
-stored-good (suc (suc (suc (suc (suc (suc (suc zero))))))) b e = (refl, both-true (leb b 65535) true e .0)
-stored-good (suc (suc (suc (suc (suc (suc (suc (suc zero)))))))) b e = (refl, both-true (leb b 4294967295) true e .0)
-stored-good (suc (suc (suc (suc (suc (suc (suc (suc (suc zero))))))))) b e = (refl, both-true (leb b 18446744073709551615) true e .0)
-stored-good (suc (suc (suc (suc (suc (suc (suc (suc (suc (suc zero)))))))))) b e = (refl, both-true (leb b 4294967295) true e .0)
-stored-good (suc (suc (suc (suc (suc (suc (suc (suc (suc (suc (suc zero))))))))))) b e = (refl, both-true (leb b 18446744073709551615) true e .0)
-stored-good (suc (suc (suc (suc (suc (suc (suc (suc (suc (suc (suc (suc zero)))))))))))) b e = let x = both-true (leb b 4294967295) (isScalar b) e in (not-not (isScalar b) (x .1), x .0)
-stored-good (suc (suc (suc (suc (suc (suc (suc (suc (suc (suc (suc (suc (suc zero))))))))))))) b e = (refl, both-true (leb b 4294967295) true e .0)
-stored-good (suc (suc (suc (suc (suc (suc (suc (suc (suc (suc (suc (suc (suc (suc zero)))))))))))))) b e = (refl, both-true (leb b 18446744073709551615) true e .0)
-stored-good (suc (suc (suc (suc (suc (suc (suc (suc (suc (suc (suc (suc (suc (suc (suc t))))))))))))))) b e = (refl, refl)
+unfolding goodValue inKind
+stored-good t b e = go (stores t b e)
+  where
+    go : Stores t b → (goodValue (storedValue t b) ≡ true) × (inKind (storedValue t b) ≡ true)
+    go (unset z y) = rw (z, stored-none b) (refl, refl)
+    go (valued k z h) = rw (z, stored-value k b) (no-bad-char k b h, h)
 
 vars-good : (vs : ℕ → Option Value) (n : ℕ) → ((x : ℕ) → x < n → goodValue (vs x) ≡ true) → goodVars vs n ≡ true
 unfolding goodVars

@@ -7,8 +7,8 @@ use lib.ListN.{replicate}
 use lib.Dec.{T, eqb}
 use Rattle.value.specs.Refusal.{frameGone, beyondLength, misaligned, notBool, notSound}
 use Rattle.value.specs.Answer.{Answer, ok, refused, need, _>>=_}
-use Rattle.value.specs.Value.{IrType, bytesOf, kindOf, tag, size, leBytes, leNumber, fromBytes}
-use Rattle.memory.specs.Memory.{Memory, Back, fresh, sum, liveCount, liveBytes, allocate, access, writeAt, writeBytes, readAt, readBytes, offsetAt, offsetBy, pushFrame, popFrame}
+use Rattle.value.specs.Value.{IrType, bytesOf, kindOf, tag, size, leBytes, leNumber, fromBytes, sameBytes}
+use Rattle.memory.specs.Memory.{Memory, Back, fresh, sum, liveCount, liveBytes, allocate, access, writeAt, writeBytes, readAt, readBytes, offsetAt, offsetBy, pushFrame, popFrame, noBack}
 
 -- ---- a case
 
@@ -18,12 +18,6 @@ pub record Case : Type 0 where
 
 abbrev pub gives : Answer (List ℕ) → Answer (List ℕ) → Case
 gives a b = record { asked = a; answer = b }
-
-unfoldable pub sameBytes : List ℕ → List ℕ → Bool
-sameBytes [] [] = true
-sameBytes [] (y ∷ ys) = false
-sameBytes (x ∷ xs) [] = false
-sameBytes (x ∷ xs) (y ∷ ys) = eqb x y && sameBytes xs ys
 
 unfoldable pub sameAnswer : Answer (List ℕ) → Answer (List ℕ) → Bool
 sameAnswer (ok a) (ok b) = sameBytes a b
@@ -68,16 +62,13 @@ unfoldable pub poppedOff : Option (Back × Memory) → Answer Memory
 poppedOff none = refused notSound
 poppedOff (some (b, m)) = ok m
 
-abbrev pub nowhere : Back
-nowhere = record { place = 0; var = none }
-
 -- a frame's pointer, after that frame returned and another stands at its index, with an allocation of its own
 unfoldable pub afterReturn : Answer (List ℕ)
 afterReturn = do
-  m ← pushFrame fresh nowhere
+  m ← pushFrame fresh noBack
   m ← allocate m 8
   m ← poppedOff (popFrame m)
-  m ← pushFrame m nowhere
+  m ← pushFrame m noBack
   m ← allocate m 8
   readBytes [] m 0 4
 

@@ -1,4 +1,5 @@
 pub mod Cases
+pub mod Flat
 pub mod Live
 pub mod Memory
 pub mod Sound

@@ -1,8 +1,7 @@
 -- The memory of the evaluator, as the Rust has it: a stack of frames, each with its allocations, and all pointers given out.
 -- Each function answers or refuses, with the document's number, by the first of its checks that fails.
-use Prim.Native.Nat.{ℕ, zero, suc, _+_, _-_, _*_, _%_, _^_, _≤_, _<_}
-use mathlib.Core.Bool.{Bool, true, false, _&&_}
-use mathlib.Core.Path.{_≡_, refl}
+use Prim.Native.Nat.{ℕ, _+_, _-_, _%_, _^_}
+use mathlib.Core.Bool.{Bool, false, _&&_}
 use mathlib.Core.List.{List, [], _∷_, _++_, map}
 use lib.ListN.{length, getD, take, drop, set, replicate}
 use mathlib.Core.Option.{Option, none, some}
@@ -30,9 +29,13 @@ pub record Memory : Type 0 where
   pub frames : List Frame
   pub pointers : List Pointer
 
--- what stands for a frame or a pointer beyond the last
+-- the root's: return place 0 and no return variable
+abbrev pub noBack : Back
+noBack = record { place = 0; var = none }
+
+-- what stands for a frame beyond the last; and the root of fresh memory
 abbrev pub noFrame : Frame
-noFrame = record { id = 0; back = record { place = 0; var = none }; allocations = [] }
+noFrame = record { id = 0; back = noBack; allocations = [] }
 
 unfoldable pub fresh : Memory
 fresh = record { counter = 1; frames = noFrame ∷ []; pointers = [] }

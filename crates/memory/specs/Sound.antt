@@ -6,8 +6,8 @@ use mathlib.Core.Option.{Option, none, some}
 use lib.ListN.{length}
 use lib.Dec.{ltb, leb, eqb}
 use Rattle.value.specs.Value.{Value, isBadChar}
+use Rattle.value.specs.Tags.{holds}
 use Rattle.memory.specs.Memory.{Back, Frame, Memory, frameAt, liveCount, liveBytes}
-use Rattle.memory.specs.Stored.{greatest}
 
 -- "ids rise up the stack and lie below the counter": each id is below the next, and the last below the counter
 unfoldable pub rising : List Frame → (counter : ℕ) → Bool
@@ -62,10 +62,10 @@ soundMachine m running place vs =
     && (goodVars vs 256
     && (running || eqb (length (m .frames)) 1)))
 
--- what a value's type says: its bits lie in its kind; of the first n variables
+-- what a value's type says: its bits are its kind's; of the first n variables
 unfoldable pub inKind : Option Value → Bool
 inKind none = true
-inKind (some v) = leb (v .bits) (greatest (v .kind))
+inKind (some v) = holds (v .kind) (v .bits)
 
 unfoldable pub typed : (ℕ → Option Value) → (n : ℕ) → Bool
 typed vs zero = true

@@ -9,8 +9,7 @@ use Rattle.value.specs.Answer.{pick}
 use Rattle.value.specs.Refusal.{notSound, shortTable, notGivenOut, throughConstant, frameGone, noAllocation, beyondLength, misaligned, offsetTooLarge, framesFull, idsSpent, allocationsFull, bytesFull, pointersFull, noConstant}
 use Rattle.memory.specs.declared.Registers.{Registers}
 use Rattle.memory.specs.declared.PointerRecord.{PointerRecord}
-use Rattle.value.specs.Value.{tag, char, isScalar}
-use Rattle.memory.specs.Stored.{greatestOf}
+use Rattle.value.specs.Tags.{kindAt, held}
 use Rattle.memory.specs.declared.LiveRecord.{LiveRecord}
 use Rattle.memory.specs.declared.Moved.{Moved}
 use Rattle.memory.specs.declared.Moved.the-variants as moved
@@ -40,6 +39,10 @@ tables m s f b p = record { registers = m; store = s; frames = f; bounds = b; po
 
 abbrev pub registers : (running next counter depth pointers : ℕ) → Registers
 registers a b c d e = record { running = a; next = b; counter = c; depth = d; pointers = e }
+
+-- the same, with so many pointers
+abbrev pub withPointers : Registers → ℕ → Registers
+withPointers m n = registers (m .running) (m .next) (m .counter) (m .depth) n
 
 -- an answer, with the one table that a function changes
 pub record Both (A : Type 0) : Type 0 where
@@ -162,7 +165,7 @@ unfoldable pub roomOf : (used size given : ℕ) → ℕ
 roomOf u size p = pick (ltb 32768 u) bytesFull (pick (ltb (32768 - u) size) bytesFull (pick (leb 4096 p) pointersFull 0))
 
 abbrev pub more : Registers → Registers
-more m = registers (m .running) (m .next) (m .counter) (m .depth) (m .pointers + 1)
+more m = withPointers m (m .pointers + 1)
 
 abbrev pub made : Tables → ℕ → Out
 made t size =
@@ -401,9 +404,9 @@ pointerOk q =
 unfoldable pub pointersOk : List ℕ → ℕ → Bool
 pointersOk ps p = pointerOk (pointerAt ps p)
 
--- a tag is 0, with bits 0, or that of a kind, with bits of that kind; a Char is scalar
+-- a tag is 0, with bits 0, or that of a kind, with bits of that kind
 unfoldable pub storedOk : (tag bits : ℕ) → Bool
-storedOk t b = leb t 14 && (leb b (greatestOf t) && pick (eqb t (tag char)) (isScalar b) true)
+storedOk t b = pick (eqb t 0) (eqb b 0) (held (kindAt t) b)
 
 unfoldable pub variableOk : List ℕ → ℕ → Bool
 variableOk vs x = storedOk (getD vs (x * 2) 0) (getD vs (x * 2 + 1) 0)

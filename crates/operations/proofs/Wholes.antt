@@ -14,9 +14,9 @@ use mir.Val as Machine
 use mir.Val.{SFits, hbits, toZ, ofZ}
 use mir.ValLaws.{toZ-ofZ, toZ-pos}
 use Rattle.value.specs.Ir.{computed}
-use Rattle.operations.specs.Kernel.{worth, Small, Outside, Told, sized, signedOf}
+use Rattle.operations.specs.Kernel.{worth, Small, Outside, Told, sized}
 use Rattle.value.specs.Refusal.{outsideWidth}
-use Rattle.value.specs.Value.{Kind, Family, signed, unsigned, floating, neither, size, width, within, family, checked, bool, u8, u16, u32, u64, i8, i16, i32, i64, f32, f64, char, asn, pointer}
+use Rattle.value.specs.Value.{Kind, Family, signed, unsigned, floating, neither, size, width, within, family, checked, bool, u8, u16, u32, u64, i8, i16, i32, i64, f32, f64, char, asn, pointer, signOf}
 use Rattle.value.specs.declared.Computed.the-variants as C
 use Rattle.value.specs.declared.IrValue.{IrValue}
 use Rattle.operations.specs.declared.integer.Whole.{Whole}
@@ -121,11 +121,11 @@ less-up m n h = rw (le-ltb m (suc n) (omega arith)) (ap pos (omega arith))
 pub less-down : (m n : ℕ) → m ≤ n → negsuc (n - m) ≡ subℕ m (suc n)
 less-down m n h = rw (lt-ltb m (suc n) (omega arith)) (ap negsuc (omega arith))
 
-pub signed-neg : (s : Bool) (m : ℕ) → s ≡ true → (m ≡ 0 → ⊥) → negsuc (m - 1) ≡ signedOf s m
+pub signed-neg : (s : Bool) (m : ℕ) → s ≡ true → (m ≡ 0 → ⊥) → negsuc (m - 1) ≡ signOf s m
 signed-neg s zero e z = absurd (z refl)
 signed-neg s (suc m) e z = rw e (ap negsuc (omega arith))
 
-pub signed-pos : (s : Bool) (m : ℕ) → s ≡ false → pos m ≡ signedOf s m
+pub signed-pos : (s : Bool) (m : ℕ) → s ≡ false → pos m ≡ signOf s m
 signed-pos s m e = rw e
 
 -- ---- products
@@ -161,7 +161,7 @@ size-over m e = go (ltb m (2 ^ 64)) refl e
     go true q e = let z : _≡_ {A = ℕ} 0 1 = cc in absurd (omega arith)
     go false q e = ltb-false m (2 ^ 64) q
 
-of-mul : (x y : ℤ) → signedOf (not (Bool·beq (not (nonNeg x)) (not (nonNeg y)))) (natAbs x * natAbs y) ≡ x *ℤ y
+of-mul : (x y : ℤ) → signOf (not (Bool·beq (not (nonNeg x)) (not (nonNeg y)))) (natAbs x * natAbs y) ≡ x *ℤ y
 of-mul (pos a) (pos b) = refl
 of-mul (pos a) (negsuc b) = refl
 of-mul (negsuc a) (pos b) = refl
@@ -178,9 +178,9 @@ over-mul (negsuc a) (pos b) h = beyond (suc a * b) h
 over-mul (negsuc a) (negsuc b) h = h
 
 module _ (x y : ℤ) {m n : ℕ} (M : m ≡ natAbs x) (N : n ≡ natAbs y) where
-  pub product-is : (r : Whole) {p q : Bool} {k : ℕ} → p ≡ not (nonNeg x) → q ≡ not (nonNeg y) → Fitting k ≡ sized (m * n) → worth r ≡ signedOf (not (Bool·beq p q)) k → worth r ≡ x *ℤ y
+  pub product-is : (r : Whole) {p q : Bool} {k : ℕ} → p ≡ not (nonNeg x) → q ≡ not (nonNeg y) → Fitting k ≡ sized (m * n) → worth r ≡ signOf (not (Bool·beq p q)) k → worth r ≡ x *ℤ y
   product-is r {p} {q} {k} P Q K R =
-      R ∙ ap (signedOf (not (Bool·beq p q))) (size-fits (m * n) k K) ∙ rw (M, N, P, Q) (of-mul x y)
+      R ∙ ap (signOf (not (Bool·beq p q))) (size-fits (m * n) k K) ∙ rw (M, N, P, Q) (of-mul x y)
 
   pub product-out : Over ≡ sized (m * n) → Outside (x *ℤ y)
   product-out e = over-mul x y (rw (M, N) at (size-over (m * n) e))

@@ -1,9 +1,9 @@
 -- What the private functions of the integer kernel say of their numbers. No public contract cites this.
-use mathlib.Core.Bool.{Bool, true, false, cond}
+use mathlib.Core.Bool.{cond}
 use mathlib.Core.Path.{_≡_}
 use Prim.Native.Nat.{ℕ, _<_, _≤_, _^_}
 use lib.Dec.{ltb}
-use lib.IntN.{ℤ, pos, negsuc, negℤ, natAbs}
+use lib.IntN.{ℤ, pos, negsuc, natAbs}
 use Rattle.operations.specs.declared.integer.Whole.{Whole}
 use Rattle.operations.specs.declared.integer.Whole.the-variants.{Pos, Neg}
 use Rattle.operations.specs.declared.integer.Exact.{Exact}
@@ -32,8 +32,3 @@ Told Beyond z = Outside z
 
 abbrev pub sized : ℕ → Size
 sized n = cond (ltb n (2 ^ 64)) (Fits n) Over
-
--- the number of size n, below 0 where the flag says so
-abbrev pub signedOf : Bool → ℕ → ℤ
-signedOf true n = negℤ (pos n)
-signedOf false n = pos n

@@ -6,8 +6,8 @@ ghost use Prim.Native.Nat.{_*_, _<_, _^_};
 ghost use lib.IntN.{ℤ, pos, negsuc, negℤ, natAbs, _+ℤ_, _*ℤ_};
 ghost use lib.Signed.{nonNeg};
 ghost use Rattle.value.specs.Ir.{valueOf, computed};
-ghost use Rattle.operations.specs.Kernel.{worth, Small, Told, sized, signedOf};
-ghost use Rattle.value.specs.Value.{arithmetic, operate, checked, negated, integer, same, family, isUnsigned, isSigned};
+ghost use Rattle.operations.specs.Kernel.{worth, Small, Told, sized};
+ghost use Rattle.value.specs.Value.{arithmetic, operate, checked, negated, integer, same, family, isUnsigned, isSigned, signOf};
 ghost use Rattle.value.specs.Value as Believed;
 use crate::float;
 use value::Computed;
@@ -286,7 +286,7 @@ fn product(a: Whole, b: Whole) -> Exact
 
 // The number of this size, below 0 where the flag says so.
 fn signed(negative: bool, size: u64) -> Whole
-    ensures { λ r. ⌜ worth r ≡ signedOf negative size ⌝ }
+    ensures { λ r. ⌜ worth r ≡ signOf negative size ⌝ }
 {
     if negative {
         if size == 0 {

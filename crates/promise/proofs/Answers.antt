@@ -14,18 +14,20 @@ use Rattle.machine.specs.Sound.{all}
 use Rattle.machine.specs.Accepted.{given}
 use Rattle.instruction.specs.Variables.{found}
 use Rattle.machine.specs.Asks.{Ask, turn, toAllocate, toWrite, toRead, toStart, toStep, toRun, toList}
+use Rattle.machine.specs.Sequence.{badChar}
 use Rattle.instruction.specs.declared.variables.Found.{Found}
 use Rattle.eval.specs.Entry.{Entering}
 use Rattle.eval.specs.Start.{startEntered}
-use Rattle.agree.specs.Seen.{seen}
+use Rattle.agree.specs.Seen.{seen, room}
 use Rattle.agree.specs.Turns.{enteredReply, enteredState}
 use Rattle.agree.proofs.Entries.{step-enters, step-kept, step-bytes, run-enters, run-kept, run-bytes}
 use Rattle.agree.proofs.Host.{allocate-enters, allocate-kept, allocate-bytes, write-enters, write-kept, write-bytes, read-enters, list-enters}
 use Rattle.agree.proofs.Start.{start-enters, start-kept, start-bytes}
-use Rattle.promise.specs.Calls.{callAllocate, callWrite, callRead, callStart, callStep, callRun, callList, Good, room, tagsOf, bitsOf, noScalar, allocating, writing, reading, starting, misgiven, stepping, running, listing}
+use Rattle.promise.specs.Calls.{callAllocate, callWrite, callRead, callStart, callStep, callRun, callList, Good, allocating, writing, reading, starting, misgiven, stepping, running, listing}
 use Rattle.promise.specs.Promised.{Answers, EntriesAnswer}
 use Rattle.promise.proofs.Lent.{spare-unused, no-values, equal-lengths, bad-length, bad-values, bad-given}
 use Rattle.image.specs.Limits.{AreBytes}
+use Rattle.calls.specs.Begin.{tagsOf, bitsOf}
 
 module _ (t : State) (good : Good t) where
   pub allocate-answers : (n : ℕ) → Answers (callAllocate n) (toAllocate n) t
@@ -88,9 +90,9 @@ entries-answer c a (starting {s} {P} {e} {f} {context} {gs} spare b h v) t g =
     let same = spare-unused s f (found (tag (context .kind)) (context .bits)) (tagsOf gs) (bitsOf gs) spare t (equal-lengths gs) in
     same-answers same (start-answers t g s b P e h f context gs v)
 entries-answer c a (misgiven {s} {P} {e} {f} {context} {ts} {bs} b h v) t g =
-    let bad = replicate (length ts) noScalar in
+    let bad = replicate (length ts) badChar in
     same-answers (no-values s f context (found (tag char) 0xd800) ts bs (tagsOf bad) (bitsOf bad) t (bad-length (length ts)) v (bad-values (tagsOf bad) (bitsOf bad)))
-    (start-answers t g s b P e h f noScalar bad (bad-given (length ts)))
+    (start-answers t g s b P e h f badChar bad (bad-given (length ts)))
 entries-answer c a (stepping {s} {P} {e} b h) t g = step-answers t g s b P e h
 entries-answer c a (running {s} {P} {e} {budget} b h) t g = run-answers t g s b P e h budget
 entries-answer c r (listing {l} {f} {a} {o}) t g = list-answers t g l f a o

@@ -10,7 +10,7 @@ use borrow.Author.Tests.{lt-ltb}
 use Rattle.value.specs.Answer.{pick}
 use Rattle.value.specs.Refusal as Refusal
 use Rattle.value.specs.Value.{Value, char, tag, isScalar}
-use Rattle.value.specs.Tags.{holds}
+use Rattle.value.specs.Tags.{holds, held}
 use Rattle.value.proofs.Tags.{kind-of-tag}
 use Rattle.image.specs.declared.field.Step.{Step}
 use Rattle.image.specs.declared.field.Step.the-variants as step
@@ -21,21 +21,23 @@ use Rattle.memory.specs.declared.Place.the-variants as place
 use Rattle.memory.specs.Tables.{State, every, soundOf}
 use Rattle.machine.specs.Sound.{all}
 use Rattle.machine.specs.Accepted.{given}
+use Rattle.machine.specs.Sequence.{badChar}
 use Rattle.instruction.specs.Variables.{found, setVariable}
 use Rattle.instruction.specs.Decode.{fieldAt}
 use Rattle.instruction.specs.Code.{Stepped}
 use Rattle.instruction.specs.declared.variables.Found.{Found}
+use Rattle.instruction.specs.Storage.{unstepped}
 use Rattle.calls.specs.Fields.{calleeAt, placeIn, entryOf}
 use Rattle.calls.specs.Room.{roomInOf}
 use Rattle.calls.specs.Variables.{slotsPointed}
-use Rattle.calls.specs.Code.{slotsMadeOf, unchanged}
-use Rattle.calls.specs.Begin.{valuesSet, flaggedSet, startedSet, variablesSet, withSlots, begunIn, begunAt, begunOf}
+use Rattle.calls.specs.Code.{slotsMadeOf}
+use Rattle.calls.specs.Begin.{valuesSet, flaggedSet, startedSet, variablesSet, withSlots, begunIn, begunAt, begunOf, tagsOf, bitsOf}
 use Rattle.calls.specs.declared.fields.Callee.{Callee}
 use Rattle.eval.specs.Loaded.{itemsOf}
 use Rattle.eval.specs.Entry.{Entering, steppedFrom, staying}
 use Rattle.eval.specs.Start.{isValue, valueAt, wantedOf, startRefusal, startLoaded, startAfter, startEntered}
 use Rattle.eval.specs.declared.entry.Entered.the-variants as entered
-use Rattle.promise.specs.Calls.{tagsOf, bitsOf, noScalar, areValues}
+use Rattle.promise.specs.Calls.{areValues}
 
 -- ---- spare bits
 
@@ -85,7 +87,7 @@ module _ (s : List ℕ) (n : ℕ) (context : Found) (ts bs spare : List ℕ) (t 
       at-place (place.At k) f =
           let m = t .memory in
           let no = roomInOf (m .registers) s f (length (m .store)) (m .frames) (m .bounds) (length (m .pointers)) in
-          ap (λ (vs : List ℕ). pick (eqb no 0) (withSlots k (slotsMadeOf s (f .count) (f .slots) m) vs) (unchanged m (t .variables) no)) (variables-spare f (m .registers .pointers) (t .variables))
+          ap (λ (vs : List ℕ). pick (eqb no 0) (withSlots k (slotsMadeOf s (f .count) (f .slots) m) vs) (unstepped m (t .variables) no)) (variables-spare f (m .registers .pointers) (t .variables))
       at-place (place.Refused k) f = refl
 
   number-spare : (m : Registers) (functions : List ℕ) → startRefusal m s functions n context ts (bs ++ spare) ≡ startRefusal m s functions n context ts bs
@@ -154,14 +156,14 @@ module _ (s : List ℕ) (n : ℕ) (context context′ : Found) (ts bs ts′ bs�
 
 -- the Chars that stand for them
 
-pub bad-length : (n : ℕ) → n ≡ length (tagsOf (replicate n noScalar))
-bad-length n = sym (length-map (replicate n noScalar) (λ g. tag (g .kind)) ∙ length-replicate n noScalar)
+pub bad-length : (n : ℕ) → n ≡ length (tagsOf (replicate n badChar))
+bad-length n = sym (length-map (replicate n badChar) (λ g. tag (g .kind)) ∙ length-replicate n badChar)
 
 pub bad-values : (ts bs : List ℕ) → areValues (found (tag char) 0xd800) ts bs ≡ false
-unfolding isValue holds isScalar
+unfolding held holds isScalar
 bad-values ts bs = rw (kind-of-tag char) refl
 
-pub bad-given : (n : ℕ) → T (all given (noScalar ∷ replicate n noScalar))
+pub bad-given : (n : ℕ) → T (all given (badChar ∷ replicate n badChar))
 unfolding all given tag
 bad-given zero = tt
 bad-given (suc n) = bad-given n

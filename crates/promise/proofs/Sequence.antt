@@ -1,7 +1,7 @@
 -- Any calls in any order: each answers as the machine does and leaves a good state, so the next does too.
 use Prim.Native.Nat.{ℕ, zero, suc, _<_}
 use native.Mathlib.Omega.{arith}
-use mathlib.Core.Bool.{Bool, true, false}
+use mathlib.Core.Bool.{false}
 use mathlib.Core.Path.{_≡_, refl, sym, ap, ap₂, _∙_, subst, fun-ext}
 use mathlib.Core.Option.{Option}
 use mathlib.Core.List.{List, _∷_}
@@ -9,6 +9,7 @@ use lib.ListN.{length, getD, replicate}
 use lib.Dec.{T}
 use mir.Facts.{yes-and}
 use Rattle.value.specs.Value.{Value}
+use Rattle.value.proofs.Truth.{is-yes}
 use Rattle.memory.specs.Memory.{Memory}
 use Rattle.memory.specs.Tables.{All, State, freshOf}
 use Rattle.memory.proofs.Laws.{fresh-made}
@@ -80,9 +81,6 @@ fresh-follows as′ t after =
     (ap seen (sym (after .left)) ∙ all-of .same ∙ ap (onwards as′) (g .0), subst Good (after .left) (all-of .good))
 
 -- ---- what is asked is accepted: its program was loaded, its bytes are bytes
-
-is-yes : {b : Bool} → b ≡ true → T b
-is-yes e = rw e tt
 
 pub asks-accepted : (c : Call) (a : Ask) → Asks c a → T (acceptedAsk a)
 unfolding acceptedAsk

@@ -9,23 +9,24 @@ use lib.ListN.{length, getD}
 use lib.Dec.{T, ltb, leb·suc-suc}
 use mir.Facts.{yes-and}
 use Rattle.value.specs.Value.{Value, value, Kind, char, tag, same}
-use Rattle.value.specs.Tags.{kindAt, holds}
+use Rattle.value.specs.Tags.{kindAt, holds, held}
 use Rattle.value.proofs.Tags.{tag-of-kind}
+use Rattle.value.proofs.Truth.{no, both-true}
 use Rattle.image.specs.Parse.{Got, took}
 use Rattle.image.specs.Parse as Parse
 use Rattle.image.specs.Program.{Program}
 use Rattle.image.specs.Image.{loaded}
 use Rattle.memory.proofs.Every.{by-test, every-at}
-use Rattle.memory.proofs.Laws.{no, both-true}
 use Rattle.machine.specs.Sound.{all}
 use Rattle.machine.specs.Accepted.{given}
 use Rattle.machine.specs.Asks.{Ask, toStart}
 use Rattle.instruction.specs.Variables.{found}
 use Rattle.instruction.specs.declared.variables.Found.{Found}
-use Rattle.eval.specs.Start.{ofKind, isValue, valueAt}
-use Rattle.promise.specs.Calls.{Call, callAllocate, callWrite, callRead, callStart, callStep, callRun, callList, Lent, tagsOf, bitsOf, areValues, Asks, allocating, writing, reading, starting, misgiven, stepping, running, listing, Refuses, refuses-read, refuses-start, refuses-step, refuses-run, Tells, asked, passed}
+use Rattle.eval.specs.Start.{isValue, valueAt}
+use Rattle.promise.specs.Calls.{Call, callAllocate, callWrite, callRead, callStart, callStep, callRun, callList, Lent, areValues, Asks, allocating, writing, reading, starting, misgiven, stepping, running, listing, Refuses, refuses-read, refuses-start, refuses-step, refuses-run, Tells, asked, passed}
 use Rattle.promise.specs.Promised.{CallsTell, AnyCalls}
 use Rattle.image.specs.Limits.{AreBytes}
+use Rattle.calls.specs.Begin.{tagsOf, bitsOf}
 
 -- ---- values from tags and bits
 
@@ -37,14 +38,14 @@ record Made (t b : ℕ) : Type 0 where
   fine : T (given made)
 
 made-of : (t b : ℕ) → isValue t b ≡ true → Made t b
-unfolding isValue given
+unfolding held given
 made-of t b e = go (kindAt t) refl e
   where
     or-yes : (x y : Bool) → y ≡ true → T (x || y)
     or-yes true y e = tt
     or-yes false y e = rw e tt
 
-    go : (o : Option Kind) → kindAt t ≡ o → ofKind o b ≡ true → Made t b
+    go : (o : Option Kind) → kindAt t ≡ o → held o b ≡ true → Made t b
     go none k h = absurd (no h)
     go (some kind) k h = record { made = value kind b; tagged = sym (tag-of-kind t kind k); bits = refl; fine = or-yes (same kind char) (holds kind b) h }
 

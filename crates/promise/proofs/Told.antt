@@ -6,6 +6,7 @@ use mathlib.Core.List.{List, _++_}
 use lib.ListN.{length}
 use Rattle.value.specs.Answer.{Answer, ok, refused, _>>=_}
 use Rattle.value.specs.Refusal.{frameGone}
+use Rattle.value.proofs.Truth.{is-true}
 use Rattle.image.specs.Program.{Program}
 use Rattle.memory.specs.Memory.{Memory, readBytes, writeBytes}
 use Rattle.memory.specs.Tables.{State}
@@ -17,10 +18,10 @@ use Rattle.machine.specs.Entries.{enter}
 use Rattle.machine.specs.Demand.{Accepted, stateAfter, reply}
 use Rattle.machine.proofs.Demand.{always-sound, granted-exactly-when-right, bytes-are-last-stored, bytes-of-constants, refused-with-its-number, gone-exactly-when-ended, writes-stay-apart, listing-is-told, refused-ever-after}
 use Rattle.memory.proofs.Bytes.{extents-apart}
-use Rattle.agree.specs.Seen.{seen}
+use Rattle.agree.specs.Seen.{seen, room}
 use Rattle.agree.proofs.Steady.{tables-sound}
-use Rattle.agree.proofs.Entries.{is-true, asked}
-use Rattle.promise.specs.Calls.{Call, callRead, callWrite, callList, call, shown, Good, Asks, reading, writing, listing, room}
+use Rattle.agree.proofs.Entries.{asked}
+use Rattle.promise.specs.Calls.{Call, callRead, callWrite, callList, call, shown, Good, Asks, reading, writing, listing}
 use Rattle.promise.specs.Promised.{After, Image, readOf, CodeGrantsExactlyWhenRight, CodeReadsLastStored, CodeReadsConstants, CodeRefusesWithItsNumber, CodeGoneExactlyWhenEnded, CodeExtentsApart, CodeWritesStayApart, CodeListsAsTold, CodeRefusesEverAfter}
 use Rattle.promise.proofs.Answers.{entries-answer}
 use Rattle.promise.proofs.Sequence.{fresh-follows, tells-accepted}

@@ -31,6 +31,7 @@ use Rattle.memory.specs.Tables as Memory
 use Rattle.machine.specs.Sound.{all}
 use Rattle.machine.specs.Accepted as Accepted
 use Rattle.machine.specs.Asks.{refusal}
+use Rattle.machine.specs.Sequence.{badChar}
 use Rattle.instruction.specs.Variables.{found}
 use Rattle.instruction.specs.Code.{Stepped}
 use Rattle.instruction.specs.declared.step.Progress.{Progress}
@@ -54,10 +55,11 @@ use Rattle.agree.proofs.Entries.{loaded-end}
 use Rattle.agree.proofs.Loaded.{loaded-follows}
 use Rattle.agree.proofs.Start.{start-untouched}
 use Rattle.agree.proofs.Step.{step-agrees}
-use Rattle.promise.specs.Calls.{Good, allocating, writing, reading, starting, misgiven, stepping, running, listing, tagsOf, bitsOf, noScalar}
+use Rattle.promise.specs.Calls.{Good, allocating, writing, reading, starting, misgiven, stepping, running, listing}
 use Rattle.promise.specs.Promised.{RefusalsChangeNothing, BuffersStay, SlicesStay}
 use Rattle.promise.proofs.Lent.{spare-unused, no-values, equal-lengths, bad-length, bad-values, bad-given}
 use Rattle.image.specs.Limits.{AreBytes}
+use Rattle.calls.specs.Begin.{tagsOf, bitsOf}
 
 module _ (t : State) (good : Good t) where
   abbrev m : Registers
@@ -142,8 +144,8 @@ refusals-change-nothing c a (reading b h) t g = λ n d. refl
 refusals-change-nothing c a (starting {s} {P} {e} {f} {context} {gs} spare b h v) t g =
     start-stays t g s b P e h f context gs v _ (spare-unused s f (found (tag (context .kind)) (context .bits)) (tagsOf gs) (bitsOf gs) spare t (equal-lengths gs))
 refusals-change-nothing c a (misgiven {s} {P} {e} {f} {context} {ts} {bs} b h v) t g =
-    let bad = replicate (length ts) noScalar in
-    start-stays t g s b P e h f noScalar bad (bad-given (length ts)) _
+    let bad = replicate (length ts) badChar in
+    start-stays t g s b P e h f badChar bad (bad-given (length ts)) _
     (no-values s f context (found (tag char) 0xd800) ts bs (tagsOf bad) (bitsOf bad) t (bad-length (length ts)) v (bad-values (tagsOf bad) (bitsOf bad)))
 refusals-change-nothing c a (stepping {s} {P} {e} b h) t g = step-untouched t g s b P e h
 refusals-change-nothing c a (running {s} {P} {e} {budget} b h) t g = run-untouched t g s b P e h budget

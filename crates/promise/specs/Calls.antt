@@ -1,11 +1,11 @@
 -- What a host may call, in any order, on one set of tables: what it is answered in the machine's words, and the state that it then holds.
-use Prim.Native.Nat.{ℕ, min}
+use Prim.Native.Nat.{ℕ}
 use mathlib.Core.Bool.{Bool, true, false, _&&_}
 use mathlib.Core.Path.{_≡_}
-use mathlib.Core.List.{List, [], _∷_, _++_, map}
+use mathlib.Core.List.{List, [], _∷_, _++_}
 use lib.ListN.{length, replicate}
 use lib.Dec.{T}
-use Rattle.value.specs.Value.{Value, value, char, tag}
+use Rattle.value.specs.Value.{Value, tag}
 use Rattle.image.specs.Parse.{took}
 use Rattle.image.specs.Parse as Parse
 use Rattle.image.specs.Program.{Program}
@@ -15,14 +15,16 @@ use Rattle.memory.specs.Tables.{State, every, soundOf}
 use Rattle.machine.specs.Sound.{all}
 use Rattle.machine.specs.Accepted.{given}
 use Rattle.machine.specs.Asks.{Ask, toAllocate, toWrite, toRead, toStart, toStep, toRun, toList, Reply, Turn, turn}
+use Rattle.machine.specs.Sequence.{badChar}
 use Rattle.instruction.specs.Variables.{found}
 use Rattle.instruction.specs.declared.variables.Found.{Found}
 use Rattle.eval.specs.Host.{hostAllocated, hostWritten, hostListed}
 use Rattle.eval.specs.Entry.{runEntered, stepEntered, readEntered}
 use Rattle.eval.specs.Start.{isValue, valueAt, startEntered}
-use Rattle.agree.specs.Seen.{seen}
+use Rattle.agree.specs.Seen.{seen, room}
 use Rattle.agree.specs.Turns.{ranReply, ranState, enteredReply, enteredState, allocatedReply, allocatedState, writtenReply, writtenState, readReply, listedReply}
 use Rattle.image.specs.Limits.{AreBytes}
+use Rattle.calls.specs.Begin.{tagsOf, bitsOf}
 
 -- ---- a call
 
@@ -65,21 +67,6 @@ pub record Good (t : State) : Type 0 where
 
 -- ---- what is asked by it
 
--- the room of the list is that of its shortest slice
-abbrev pub room : (live frame allocation offset : List ℕ) → ℕ
-room l f a o = min (length l) (min (length f) (min (length a) (length o)))
-
--- values as they are lent
-abbrev pub tagsOf : List Value → List ℕ
-tagsOf gs = map (λ g. tag (g .kind)) gs
-
-abbrev pub bitsOf : List Value → List ℕ
-bitsOf gs = map (λ g. g .bits) gs
-
--- "15 a Char that is no scalar value"
-abbrev pub noScalar : Value
-noScalar = value char 0xd800
-
 -- the context's tag and bits are a value's, and so are each argument's
 abbrev pub areValues : (context : Found) → (tags bits : List ℕ) → Bool
 areValues context ts bs = isValue (context .tag) (context .bits) && every (length ts) (valueAt ts bs)
@@ -93,7 +80,7 @@ pub data Asks : Call → Ask → Type 0 where
   starting : {s : List ℕ} {P : Program} {e f : ℕ} {context : Value} {gs : List Value} (spare : List ℕ) → AreBytes s → loaded s ≡ took P e → T (all given (context ∷ gs))
       → Asks (callStart s f (found (tag (context .kind)) (context .bits)) (tagsOf gs) (bitsOf gs ++ spare)) (toStart P f context gs)
   misgiven : {s : List ℕ} {P : Program} {e f : ℕ} {context : Found} {ts bs : List ℕ} → AreBytes s → loaded s ≡ took P e → areValues context ts bs ≡ false
-      → Asks (callStart s f context ts bs) (toStart P f noScalar (replicate (length ts) noScalar))
+      → Asks (callStart s f context ts bs) (toStart P f badChar (replicate (length ts) badChar))
   stepping : {s : List ℕ} {P : Program} {e : ℕ} → AreBytes s → loaded s ≡ took P e → Asks (callStep s) (toStep P)
   running : {s : List ℕ} {P : Program} {e budget : ℕ} → AreBytes s → loaded s ≡ took P e → Asks (callRun s budget) (toRun P budget)
   listing : {l f a o : List ℕ} → Asks (callList l f a o) (toList (room l f a o))

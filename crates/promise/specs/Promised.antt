@@ -18,8 +18,8 @@ use Rattle.machine.specs.History.{ofConstant, ofPlace, madeAt, StandsFor, Ended
 use Rattle.machine.specs.Demand.{tells, stateAfter, Right, Why}
 use Rattle.eval.specs.Host.{hostListed}
 use Rattle.eval.specs.Entry.{readEntered}
-use Rattle.agree.specs.Seen.{seen}
-use Rattle.promise.specs.Calls.{Call, callRead, callWrite, callList, call, heard, shown, Good, room, Asks, Refuses, AllLent, AllAsk, Tells, heardBy, leftBy}
+use Rattle.agree.specs.Seen.{seen, room}
+use Rattle.promise.specs.Calls.{Call, callRead, callWrite, callList, call, heard, shown, Good, Asks, Refuses, AllLent, AllAsk, Tells, heardBy, leftBy}
 use Rattle.image.specs.Limits.{AreBytes}
 
 -- ---- one call

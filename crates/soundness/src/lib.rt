@@ -2,7 +2,6 @@
 ghost use mathlib.Core.Path.{_≡_};
 ghost use Prim.Native.Nat.{_<_, _≤_};
 ghost use lib.ListN.{length};
-ghost use Rattle.value.specs.Value.{isScalar};
 ghost use Rattle.memory.specs.Tables.{tables, pointer, state, every, idAbove, frameOk, boundOk, pointerOk, pointersOk, storedOk, variableOk, registersOk, endsOk, allocationsOk, memoryOk, soundOf};
 use memory::CONSTANT;
 use memory::LOCAL;
@@ -14,6 +13,7 @@ use memory::MAX_VARIABLES;
 use memory::Registers;
 use memory::VARIABLES_LENGTH;
 use memory::ready;
+use value::IrValue;
 
 // The id that a frame's lies below: that of the frame above, and above the top the counter.
 fn id_above(i: usize, d: usize, counter: u64, frames: &[u64]) -> u64
@@ -110,55 +110,14 @@ fn pointers_sound(n: usize, pointers: &[u64]) -> bool
     true
 }
 
-// Char is 0..D7FF or E000..10FFFF hex.
-fn scalar(bits: u64) -> bool
-    ensures { λ r. ⌜ r ≡ isScalar bits ⌝ }
-{
-    if bits <= 0xd7ff {
-        return true;
-    }
-    if bits < 0xe000 {
-        return false;
-    }
-    bits <= 0x10ffff
-}
-
-// The greatest bits of each tag: unset, Bool, U8, U16, U32, U64, I8, I16, I32, I64, F32, F64, Char, Asn, Pointer.
-const GREATEST: [u64; 15] = [
-    0,
-    1,
-    255,
-    65535,
-    4294967295,
-    18446744073709551615,
-    255,
-    65535,
-    4294967295,
-    18446744073709551615,
-    4294967295,
-    18446744073709551615,
-    4294967295,
-    4294967295,
-    18446744073709551615,
-];
-
-const CHAR_TAG: u64 = 12;
-
 // A value's tag and bits, or unset.
 fn variable_sound(tag: u64, bits: u64) -> bool
     ensures { λ r. ⌜ r ≡ storedOk tag bits ⌝ }
 {
-    if 14 < tag {
-        return false;
+    if tag == 0 {
+        return bits == 0;
     }
-    let t = tag as usize;
-    if GREATEST[t] < bits {
-        return false;
-    }
-    if tag != CHAR_TAG {
-        return true;
-    }
-    scalar(bits)
+    IrValue::fits(tag, bits)
 }
 
 fn variables_sound(variables: &[u64]) -> bool

@@ -1,9 +1,11 @@
+pub mod Truth
+pub mod Stores
 pub mod Complement
 pub mod Tags
 pub mod Roundtrip
 pub mod LowFirst
 pub mod Leftover
-pub mod Switching
+pub mod Comparisons
 pub mod Patterns
 pub mod Rounding
 pub mod Fields

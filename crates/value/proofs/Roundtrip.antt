@@ -27,6 +27,7 @@ use Rattle.value.specs.declared.Made.the-variants as M
 use Rattle.value.proofs.Complement.{bits-are, reading}
 use Rattle.value.proofs.Patterns.{single-there, double-there, single-back, double-back}
 use Rattle.value.proofs.Tags.{kind-of-tag, tag-of-kind}
+use Rattle.value.proofs.Truth.{is-yes, both-true}
 
 -- the bits of a value of which the case is known
 pub told : {v w : IrValue} {n : ℕ} → v ≡ w → n ≡ valueOf w .bits → n ≡ valueOf v .bits
@@ -92,21 +93,13 @@ signed-back w k z e i h =
 signed-holds : (w : Width) (k : Kind) (z : ℤ) → bits w ≡ width k → SFits w z → ltb (bitsOf k z) (2 ^ bits w) ≡ true
 signed-holds w k z e h = lt-ltb _ _ (subst (λ (b : ℕ). b < 2 ^ bits w) (bits-are w k e z) (ofZ-fits w z h .fits))
 
-both : (s t : Bool) → s && t ≡ true → (s ≡ true) × (t ≡ true)
-both true true h = (refl, refl)
-both true false h = absurd (subst (λ (b : Bool). T (not b)) h tt)
-both false t h = absurd (subst (λ (b : Bool). T (not b)) h tt)
-
-yes : (t : Bool) → t ≡ true → T t
-yes t e = subst T (sym e) tt
-
 single-own : (x : Single) → ownSingle x ≡ true → (single (bits32 x) ≡ x) × (ltb (bits32 x) (2 ^ 32) ≡ true)
-single-own (S.Number x) h = let t = both (fits binary32 x) (not (isNan x)) h in (single-back x (yes _ (t .0)) (yes _ (t .1)), lt-ltb _ _ (toBits-lt binary32 x (yes _ (t .0))))
-single-own (S.Nan b) h = let t = both (nanBits binary32 b) (ltb b (2 ^ 32)) h in (rw (t .0), t .1)
+single-own (S.Number x) h = let t = both-true (fits binary32 x) (not (isNan x)) h in (single-back x (is-yes (t .0)) (is-yes (t .1)), lt-ltb _ _ (toBits-lt binary32 x (is-yes (t .0))))
+single-own (S.Nan b) h = let t = both-true (nanBits binary32 b) (ltb b (2 ^ 32)) h in (rw (t .0), t .1)
 
 double-own : (x : Double) → ownDouble x ≡ true → (double (bits64 x) ≡ x) × (ltb (bits64 x) (2 ^ 64) ≡ true)
-double-own (D.Number x) h = let t = both (fits binary64 x) (not (isNan x)) h in (double-back x (yes _ (t .0)) (yes _ (t .1)), lt-ltb _ _ (toBits-lt binary64 x (yes _ (t .0))))
-double-own (D.Nan b) h = let t = both (nanBits binary64 b) (ltb b (2 ^ 64)) h in (rw (t .0), t .1)
+double-own (D.Number x) h = let t = both-true (fits binary64 x) (not (isNan x)) h in (double-back x (is-yes (t .0)) (is-yes (t .1)), lt-ltb _ _ (toBits-lt binary64 x (is-yes (t .0))))
+double-own (D.Nan b) h = let t = both-true (nanBits binary64 b) (ltb b (2 ^ 64)) h in (rw (t .0), t .1)
 
 -- "on values for every value that has bits of its own"
 pub value-back : (v : IrValue) → own v ≡ true → irValue (valueOf v) ≡ v

@@ -31,6 +31,24 @@ kind-of-tag char = refl
 kind-of-tag asn = refl
 kind-of-tag pointer = refl
 
+-- no kind has the tag 0
+pub tag-some : (k : Kind) → eqb (tag k) 0 ≡ false
+unfolding tag
+tag-some bool = refl
+tag-some u8 = refl
+tag-some u16 = refl
+tag-some u32 = refl
+tag-some u64 = refl
+tag-some i8 = refl
+tag-some i16 = refl
+tag-some i32 = refl
+tag-some i64 = refl
+tag-some f32 = refl
+tag-some f64 = refl
+tag-some char = refl
+tag-some asn = refl
+tag-some pointer = refl
+
 named-tag : (ks : List Kind) (n : ℕ) (k : Kind) → named ks n ≡ some k → tag k ≡ n
 unfolding named
 named-tag [] n k h = let z : _≡_ {A = ℕ} 0 1 = cc in absurd (omega arith)
@@ -61,7 +79,8 @@ module _ (k : Kind) (b : ℕ) {n : ℕ} (e : n ≡ tag k) where
   unfolding made
   made-at h = sym (ap (λ (m : ℕ). made (kindAt m) b) e ∙ ap (λ o. made o b) (kind-of-tag k) ∙ ap (λ (t : Bool). pick t (M.Value (irOf k b)) M.Nothing) (sym held-at ∙ h))
 
-abbrev No : ℕ → ℕ → Type 0
+-- n is not k
+abbrev pub No : ℕ → ℕ → Type 0
 No n k = n ≡ k → ⊥
 
 pub no-kind : (n : ℕ) → No n 1 → No n 2 → No n 3 → No n 4 → No n 5 → No n 6 → No n 7 → No n 8 → No n 9 → No n 10 → No n 11 → No n 12 → No n 13 → No n 14 → kindAt n ≡ none

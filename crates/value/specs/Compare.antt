@@ -1,18 +1,10 @@
 -- The code's comparisons, and the definitions'.
-use Prim.Native.Nat.{ℕ}
-use mathlib.Core.Bool.{Bool, not}
 use mathlib.Core.Option.{Option, none, some}
-use lib.Dec.{eqb}
-use Rattle.value.specs.Answer.{Answer, ok, refused, need}
-use Rattle.value.specs.Refusal.{wrongKinds}
-use Rattle.value.specs.Value.{Value, same, bool}
 use Rattle.value.specs.Value as Believed
 use Rattle.value.specs.declared.IntCmp as I
 use Rattle.value.specs.declared.FloatCmp as F
 use Rattle.value.specs.declared.IntComparison as Ic
 use Rattle.value.specs.declared.FloatComparison as Fc
-use Rattle.value.specs.declared.Switched as W
-use Rattle.value.specs.declared.Truth as B
 
 unfoldable pub intCmpOf : I.IntCmp → Believed.IntCmp
 intCmpOf I.the-variants.Eq = Believed.Eq
@@ -62,16 +54,3 @@ intComparison (some c) = Ic.the-variants.Is (irIntCmp c)
 unfoldable pub floatComparison : Option Believed.FloatCmp → Fc.FloatComparison
 floatComparison none = Fc.the-variants.Nothing
 floatComparison (some c) = Fc.the-variants.Is (irFloatCmp c)
-
--- what Switch examines
-unfoldable pub switched : Answer ℕ → W.Switched
-switched (ok n) = W.the-variants.On n
-switched (refused n) = W.the-variants.Refused n
-
--- a Bool's own truth; "wrong kinds for the instruction" else
-unfoldable pub asBool : Value → Answer Bool
-asBool v = need (same (v .kind) bool) wrongKinds (ok (not (eqb (v .bits) 0)))
-
-unfoldable pub truthOf : Answer Bool → B.Truth
-truthOf (ok b) = B.the-variants.Is b
-truthOf (refused n) = B.the-variants.Refused n

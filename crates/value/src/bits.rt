@@ -82,31 +82,31 @@ impl IrValue {
         }
     }
 
+    // Whether these are the bits of a value with this tag.
+    pub fn fits(number: u64, bits: u64) -> bool
+        ensures { λ r. ⌜ r ≡ held (kindAt number) bits ⌝ }
+    {
+        match number {
+            IrType::BOOL_TAG => bits < 2,
+            IrType::U8_TAG | IrType::I8_TAG => bits < 0x100,
+            IrType::U16_TAG | IrType::I16_TAG => bits < 0x1_0000,
+            IrType::U32_TAG | IrType::I32_TAG | IrType::F32_TAG | IrValue::ASN_TAG => bits
+                < 0x1_0000_0000,
+            IrType::U64_TAG | IrType::I64_TAG | IrType::F64_TAG | IrType::POINTER_TAG => true,
+            IrValue::CHAR_TAG => is_scalar(bits),
+            _ => false,
+        }
+    }
+
     // The value of a tag and bits, where there is one.
     pub fn from_bits(number: u64, bits: u64) -> Made
         ensures { λ r. ⌜ r ≡ made (kindAt number) bits ⌝ }
     {
-        if fits(number, bits) {
+        if IrValue::fits(number, bits) {
             make(number, bits)
         } else {
             Made::Nothing
         }
-    }
-}
-
-// Whether these are the bits of a value with this tag.
-fn fits(number: u64, bits: u64) -> bool
-    ensures { λ r. ⌜ r ≡ held (kindAt number) bits ⌝ }
-{
-    match number {
-        IrType::BOOL_TAG => bits < 2,
-        IrType::U8_TAG | IrType::I8_TAG => bits < 0x100,
-        IrType::U16_TAG | IrType::I16_TAG => bits < 0x1_0000,
-        IrType::U32_TAG | IrType::I32_TAG | IrType::F32_TAG | IrValue::ASN_TAG => bits
-            < 0x1_0000_0000,
-        IrType::U64_TAG | IrType::I64_TAG | IrType::F64_TAG | IrType::POINTER_TAG => true,
-        IrValue::CHAR_TAG => is_scalar(bits),
-        _ => false,
     }
 }
 

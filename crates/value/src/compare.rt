@@ -1,17 +1,11 @@
-// The comparisons by their numbers, what Switch examines, and a Bool's own truth.
+// The comparisons by their numbers.
 ghost use mathlib.Core.Path.{_≡_};
-ghost use Rattle.value.specs.Value.{switchOn};
 ghost use Rattle.value.specs.Tags.{intCmpAt, floatCmpAt};
-ghost use Rattle.value.specs.Ir.{valueOf};
-ghost use Rattle.value.specs.Compare.{intComparison, floatComparison, switched, asBool, truthOf};
+ghost use Rattle.value.specs.Compare.{intComparison, floatComparison};
 use crate::FloatCmp;
 use crate::FloatComparison;
 use crate::IntCmp;
 use crate::IntComparison;
-use crate::IrValue;
-use crate::Switched;
-use crate::Truth;
-use crate::refusal::WRONG_KINDS;
 
 impl IntCmp {
     pub fn from_number(number: u64) -> IntComparison
@@ -46,29 +40,5 @@ impl FloatCmp {
             5 => FloatComparison::Is(FloatCmp::Ge),
             _ => FloatComparison::Nothing,
         }
-    }
-}
-
-impl IrValue {
-    // The number that Switch compares with its branches'.
-    pub fn switch_on(self) -> Switched
-        ensures { λ r. ⌜ r ≡ switched (switchOn (valueOf self)) ⌝ }
-    {
-        match self {
-            IrValue::Bool(_) => Switched::On(self.bits()),
-            IrValue::U8(n) => Switched::On(n as u64),
-            IrValue::U16(n) => Switched::On(n as u64),
-            IrValue::U32(n) => Switched::On(n as u64),
-            _ => Switched::Refused(WRONG_KINDS),
-        }
-    }
-
-    pub fn as_bool(self) -> Truth
-        ensures { λ r. ⌜ r ≡ truthOf (asBool (valueOf self)) ⌝ }
-    {
-        let IrValue::Bool(b) = self else {
-            return Truth::Refused(WRONG_KINDS);
-        };
-        Truth::Is(b)
     }
 }

@@ -109,15 +109,3 @@ pub enum FloatComparison {
     Is(FloatCmp),
     Nothing,
 }
-
-// What Switch examines, or a refusal.
-pub enum Switched {
-    On(u64),
-    Refused(u64),
-}
-
-// A Bool's own truth, or a refusal.
-pub enum Truth {
-    Is(bool),
-    Refused(u64),
-}

@@ -9,8 +9,8 @@ use lib.ListN.{length, getD}
 use lib.Dec.{leb, eqb}
 use borrow.Author.Tests.{leb-true, eqb-true, lt-ltb, le-ltb, ne-eqb}
 use Rattle.value.specs.Answer.{pick}
+use Rattle.value.proofs.Truth.{both-true}
 use Rattle.words.specs.Hex.{between, isHexDigit, nibble, allHex, isHex, bytesSaid, glyph, pairsOf, hexOf}
-use Rattle.words.proofs.Numbers.{and-true}
 use Rattle.words.proofs.HexDigits.{in-range, below, above, length-pairs, even-digits}
 
 -- a digit that was written is read again
@@ -67,7 +67,7 @@ digit b h = go (between 48 57 b) (between 97 102 b) (between 65 70 b) refl refl 
   where
     within : (low high : ℕ) → between low high b ≡ true → (low ≤ b) × (b ≤ high)
     within low high e =
-        let t = and-true (leb low b) (leb b high) e in
+        let t = both-true (leb low b) (leb b high) e in
         (leb-true low b (t .0), leb-true b high (t .1))
 
     go : (x y z : Bool) → between 48 57 b ≡ x → between 97 102 b ≡ y → between 65 70 b ≡ z → (x || (y || z)) ≡ true → Digit b
@@ -98,8 +98,8 @@ unfolding bytesSaid pairsOf allHex
 pairs-kept [] e h = refl
 pairs-kept (a ∷ []) e h = absurd (omega arith)
 pairs-kept (a ∷ b ∷ w) e h =
-    let f = and-true (isHexDigit a) (isHexDigit b && allHex w) h in
-    let g = and-true (isHexDigit b) (allHex w) (f .1) in
+    let f = both-true (isHexDigit a) (isHexDigit b && allHex w) h in
+    let g = both-true (isHexDigit b) (allHex w) (f .1) in
     let x = kept a (digit a (f .0)) in
     let y = kept b (digit b (g .0)) in
     let q : (nibble a * 16 + nibble b) / 16 ≡ nibble a = omega (arith, x .below16, y .below16) in
@@ -115,5 +115,5 @@ back (a ∷ []) h = let e = eqb-true a 45 h in rw e
 back (a ∷ b ∷ w) h =
     let n : isHex (a ∷ b ∷ w) ≡ (eqb (length (a ∷ b ∷ w) % 2) 0 && allHex (a ∷ b ∷ w)) =
     rw (ne-eqb (suc (suc (length w))) 1 (λ e. omega arith), lt-ltb 0 (suc (suc (length w))) (omega arith)) in
-    let t = and-true (eqb (length (a ∷ b ∷ w) % 2) 0) (allHex (a ∷ b ∷ w)) (sym n ∙ h) in
+    let t = both-true (eqb (length (a ∷ b ∷ w) % 2) 0) (allHex (a ∷ b ∷ w)) (sym n ∙ h) in
     pairs-kept (a ∷ b ∷ w) (eqb-true (length (a ∷ b ∷ w) % 2) 0 (t .0)) (t .1)

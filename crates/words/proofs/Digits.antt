@@ -3,7 +3,7 @@ use Prim.Native.Nat.{ℕ, zero, suc, _+_, _-_, _*_, _/_, _%_, _^_, _<_, _≤_}
 use native.Mathlib.Nat.{pow-suc, div-lt-iff-lt-mul, le-trans}
 use native.Mathlib.Numerals.{sub-one, add-one}
 use native.Mathlib.Omega.{arith}
-use mathlib.Core.Bool.{Bool, true, false, _&&_}
+use mathlib.Core.Bool.{and-false}
 use mathlib.Core.Path.{_≡_, refl, sym, ap, _∙_}
 use mathlib.Core.List.{List, [], _∷_}
 use lib.ListN.{length, getD, set, drop, length-append, drop-of-length-le}
@@ -12,7 +12,7 @@ use borrow.Author.Tests.{lt-ltb, le-ltb, le-leb, lt-leb, eq-eqb, ne-eqb}
 use Rattle.words.specs.Number.{allDigits, valueAfter, digitsSay, number, digits, placesWithin, places, decimal, upTo}
 use Rattle.words.specs.declared.Read.{Read}
 use Rattle.words.specs.declared.Read.the-variants.{Number, Bad}
-use Rattle.words.proofs.Stores.{sets-last}
+use Rattle.value.proofs.Stores.{sets-last}
 
 -- ---- how many digits
 
@@ -68,10 +68,6 @@ pub value-grows : (w : List ℕ) (n : ℕ) → n ≤ valueAfter n w
 unfolding valueAfter
 value-grows [] n = omega arith
 value-grows (b ∷ bs) n = le-trans (omega arith) (value-grows bs (n * 10 + (b - 48)))
-
-and-false : (b : Bool) → (b && false) ≡ false
-and-false true = refl
-and-false false = refl
 
 module _ (n b : ℕ) (bs : List ℕ) where
   say-low : b < 48 → digitsSay n (b ∷ bs) ≡ Bad

@@ -1,4 +1,3 @@
-pub mod Stores
 pub mod Pieces
 pub mod Digits
 pub mod Numbers

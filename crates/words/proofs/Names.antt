@@ -11,30 +11,29 @@ use lib.Seq.{drop-cons}
 use lib.Dec.{leb, eqb, leb·suc-suc}
 use borrow.Author.Tests.{leb-true, eqb-true, lt-ltb, le-ltb, ne-eqb}
 use Rattle.value.specs.Answer.{pick}
-use Rattle.value.specs.Value.{Kind, bool, u8, u16, u32, u64, i8, i16, i32, i64, f32, f64, char, asn, pointer, tag, size}
-use Rattle.words.specs.Words.{same}
-use Rattle.words.specs.Kinds.{name, kinds, names, nameOf, kindFrom, kindRead, limitOf, limits, fits, rows, rowOf}
+use Rattle.value.specs.Value.{Kind, bool, u8, u16, u32, u64, i8, i16, i32, i64, f32, f64, char, asn, pointer, tag, size, sameBytes}
+use Rattle.value.proofs.Truth.{both-true}
+use Rattle.words.specs.Kinds.{name, names, nameOf, kindFrom, kindRead, limitOf, limits, fits, rows, rowOf}
 use Rattle.words.specs.declared.Read.{Read}
 use Rattle.words.specs.declared.Read.the-variants.{Number, Bad}
-use Rattle.words.proofs.Numbers.{and-true}
 use Rattle.words.proofs.Parting.{same-is}
 use Rattle.words.proofs.Table.{every, entry}
 
 -- ---- the rows
 
 row-test : ℕ → List ℕ → Bool
-row-test t n = leb (getD (rows names) (t * 8) 0) 7 && same (take (getD (rows names) (t * 8) 0) (drop (t * 8 + 1) (rows names))) n
+row-test t n = leb (getD (rows names) (t * 8) 0) 7 && sameBytes (take (getD (rows names) (t * 8) 0) (drop (t * 8 + 1) (rows names))) n
 
 rows-pass : every row-test 0 names ≡ true
-unfolding row-test rows names name kinds same
+unfolding row-test rows names name sameBytes
 rows-pass = refl
 
 pub names-count : length names ≡ 15
-unfolding names kinds
+unfolding names
 names-count = refl
 
 pub rows-count : length (rows names) ≡ 120
-unfolding rows names name kinds
+unfolding rows names name
 rows-count = refl
 
 record Row (t : ℕ) : Type 0 where
@@ -45,7 +44,7 @@ row-at : (t : ℕ) → t < 15 → Row t
 unfolding row-test nameOf
 row-at t h =
     let b = entry row-test [] names rows-pass t (omega (arith, names-count)) in
-    let s = and-true (leb (getD (rows names) (t * 8) 0) 7) (same (take (getD (rows names) (t * 8) 0) (drop (t * 8 + 1) (rows names))) (getD names t [])) b in
+    let s = both-true (leb (getD (rows names) (t * 8) 0) 7) (sameBytes (take (getD (rows names) (t * 8) 0) (drop (t * 8 + 1) (rows names))) (getD names t [])) b in
     record { short = leb-true _ 7 (s .0); is = same-is _ _ (s .1) }
 
 row-of : (t : ℕ) → (rowOf t < 15) × (nameOf (rowOf t) ≡ nameOf t)
@@ -74,16 +73,16 @@ module _ (table : List ℕ) (row long t : ℕ) (e : table ≡ rows names) (r : r
 -- ---- a search of the names
 
 module _ (w : List ℕ) (t : ℕ) (h : t < 15) where
-  here : kindFrom w t (drop t names) ≡ pick (same w (nameOf t)) (Number t) (kindFrom w (t + 1) (drop (t + 1) names))
+  here : kindFrom w t (drop t names) ≡ pick (sameBytes w (nameOf t)) (Number t) (kindFrom w (t + 1) (drop (t + 1) names))
   unfolding kindFrom nameOf
   here =
       ap (kindFrom w t) (drop-cons names t [] (omega (arith, names-count)))
-      ∙ ap (λ (k : ℕ). pick (same w (getD names t [])) (Number t) (kindFrom w k (drop k names))) (sym (add-one t))
+      ∙ ap (λ (k : ℕ). pick (sameBytes w (getD names t [])) (Number t) (kindFrom w k (drop k names))) (sym (add-one t))
 
-  pub named : {whole : Read} → same w (nameOf t) ≡ true → kindFrom w t (drop t names) ≡ whole → Number t ≡ whole
+  pub named : {whole : Read} → sameBytes w (nameOf t) ≡ true → kindFrom w t (drop t names) ≡ whole → Number t ≡ whole
   named s e = sym (here ∙ rw s) ∙ e
 
-  pub not-named : {whole : Read} → same w (nameOf t) ≡ false → kindFrom w t (drop t names) ≡ whole → kindFrom w (t + 1) (drop (t + 1) names) ≡ whole
+  pub not-named : {whole : Read} → sameBytes w (nameOf t) ≡ false → kindFrom w t (drop t names) ≡ whole → kindFrom w (t + 1) (drop (t + 1) names) ≡ whole
   not-named s e = sym (here ∙ rw s) ∙ e
 
 pub none-named : (w : List ℕ) (t : ℕ) {whole : Read} → 15 ≤ t → kindFrom w t (drop t names) ≡ whole → Bad ≡ whole
@@ -101,7 +100,7 @@ most-test : ℕ → ℕ → Bool
 most-test t m = eqb t 0 || eqb (suc m) (getD limits t 0)
 
 most-pass : every most-test 0 most ≡ true
-unfolding most-test most limits limitOf kinds tag size
+unfolding most-test most limits limitOf tag size
 most-pass = refl
 
 module _ (t b : ℕ) where
@@ -110,7 +109,7 @@ module _ (t b : ℕ) where
   no-kind e = rw (e, le-ltb b 0 (omega arith))
 
   pub no-such-kind : 14 < t → false ≡ fits t b
-  unfolding fits limits kinds
+  unfolding fits limits
   no-such-kind h = rw (List·getD-eq-default limits 0 {n = t} (omega arith), le-ltb b 0 (omega arith))
 
   pub bits-fit : (t ≡ 0 → ⊥) → t ≤ 14 → leb b (getD most t 0) ≡ fits t b
@@ -136,7 +135,7 @@ name-test : ℕ → List ℕ → Bool
 name-test t n = eqb t 0 || says t (kindRead n)
 
 names-pass : every name-test 0 names ≡ true
-unfolding name-test says kindRead kindFrom names name kinds same
+unfolding name-test says kindRead kindFrom names name sameBytes
 names-pass = refl
 
 -- a name that was written is read as its tag
@@ -149,9 +148,9 @@ there t p h =
 from-names : (w : List ℕ) (i : ℕ) (ns : List (List ℕ)) (t : ℕ) → kindFrom w i ns ≡ Number t → (i ≤ t) × (t < i + length ns) × (getD ns (t - i) [] ≡ w)
 unfolding kindFrom
 from-names w i [] t e = let z : _≡_ {A = ℕ} 0 1 = cc in absurd (omega arith)
-from-names w i (n ∷ ns) t e = go (same w n) refl e (from-names w (suc i) ns t)
+from-names w i (n ∷ ns) t e = go (sameBytes w n) refl e (from-names w (suc i) ns t)
   where
-    go : (b : Bool) → same w n ≡ b → pick b (Number i) (kindFrom w (suc i) ns) ≡ Number t
+    go : (b : Bool) → sameBytes w n ≡ b → pick b (Number i) (kindFrom w (suc i) ns) ≡ Number t
         → (kindFrom w (suc i) ns ≡ Number t → (suc i ≤ t) × (t < suc i + length ns) × (getD ns (t - suc i) [] ≡ w))
         → (i ≤ t) × (t < i + suc (length ns)) × (getD (n ∷ ns) (t - i) [] ≡ w)
     go true s e f =
@@ -165,7 +164,7 @@ from-names w i (n ∷ ns) t e = go (same w n) refl e (from-names w (suc i) ns t)
 
 -- a tag that was read is written as the same name
 pub back : (w : List ℕ) (t : ℕ) → kindRead w ≡ Number t → (0 < t) × (t < 15) × (nameOf t ≡ w)
-unfolding kindRead nameOf names kinds
+unfolding kindRead nameOf names
 back w t e =
     let r = from-names w 1 (drop 1 names) t e in
     let z : t ≡ suc (t - 1) = omega (arith, r .0) in
@@ -176,7 +175,7 @@ back w t e =
 
 -- each kind's name and limit stand at its tag
 pub at-tag : (k : Kind) → (nameOf (tag k) ≡ name k) × (getD limits (tag k) 0 ≡ limitOf k)
-unfolding nameOf names limits kinds tag
+unfolding nameOf names limits tag
 at-tag bool = (refl, refl)
 at-tag u8 = (refl, refl)
 at-tag u16 = (refl, refl)

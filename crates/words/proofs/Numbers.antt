@@ -11,6 +11,7 @@ use lib.ListN.{length, getD, List·getD-append}
 use lib.Dec.{leb, ltb}
 use borrow.Author.Tests.{lt-ltb, le-leb, ltb-true, leb-true}
 use Rattle.value.specs.Answer.{pick}
+use Rattle.value.proofs.Truth.{both-true}
 use Rattle.words.specs.Number.{isDigit, allDigits, valueAfter, digitsSay, number, digits, placesWithin, places, decimal}
 use Rattle.words.specs.declared.Read.{Read}
 use Rattle.words.specs.declared.Read.the-variants.{Number, Bad}
@@ -117,10 +118,6 @@ there n h =
 
 -- ---- the digits of a number that was read
 
-pub and-true : (a b : Bool) → (a && b) ≡ true → (a ≡ true) × (b ≡ true)
-and-true true b h = (refl, h)
-and-true false b h = let z : _≡_ {A = ℕ} 0 1 = cc in absurd (omega arith)
-
 -- a first digit, and digits after it
 pub record First (b : ℕ) (bs : List ℕ) : Type 0 where
   pub low : 48 ≤ b
@@ -130,8 +127,8 @@ pub record First (b : ℕ) (bs : List ℕ) : Type 0 where
 pub first : (b : ℕ) (bs : List ℕ) → allDigits (b ∷ bs) ≡ true → First b bs
 unfolding allDigits
 first b bs h =
-    let t = and-true (isDigit b) (allDigits bs) h in
-    let d = and-true (leb 48 b) (leb b 57) (t .0) in
+    let t = both-true (isDigit b) (allDigits bs) h in
+    let d = both-true (leb 48 b) (leb b 57) (t .0) in
     record { low = leb-true 48 b (d .0); high = leb-true b 57 (d .1); after = t .1 }
 
 respell : (w : List ℕ) (k n : ℕ) → allDigits w ≡ true → digits (k + length w) (valueAfter n w) ≡ digits k n ++ w

@@ -10,9 +10,10 @@ use lib.ListN.{length, getD, take, drop, length-drop, drop-of-length-le}
 use lib.Seq.{take-all, drop-cons, drop-drop, length-take-le}
 use lib.Dec.{eqb}
 use borrow.Author.Tests.{eq-eqb, ne-eqb, eqb-true}
-use Rattle.words.specs.Words.{same, until, onto, words, spanFrom, wordAt, Stands, parts, lines}
+use Rattle.words.specs.Words.{until, onto, words, spanFrom, wordAt, Stands, parts}
 use Rattle.words.specs.declared.Span.{Span}
-use Rattle.words.proofs.Numbers.{and-true}
+use Rattle.value.specs.Value.{sameBytes}
+use Rattle.value.proofs.Truth.{both-true}
 
 at-head : (s : List ℕ) (i : ℕ) → i < length s → drop i s ≡ getD s i 0 ∷ drop (i + 1) s
 at-head s i h = drop-cons s i 0 h ∙ ap (λ (k : ℕ). getD s i 0 ∷ drop k s) (sym (add-one i))
@@ -43,44 +44,39 @@ until-within b (x ∷ xs) =
 
 -- ---- a comparison
 
-pub other-length : (a b : List ℕ) → (length a ≡ length b → ⊥) → false ≡ same a b
-unfolding same
+pub other-length : (a b : List ℕ) → (length a ≡ length b → ⊥) → false ≡ sameBytes a b
+unfolding sameBytes
 other-length [] [] h = absurd (h refl)
 other-length [] (y ∷ ys) h = refl
 other-length (x ∷ xs) [] h = refl
 other-length (x ∷ xs) (y ∷ ys) h = go (eqb x y) (other-length xs ys (λ e. h (ap suc e)))
   where
-    go : (t : Bool) → false ≡ same xs ys → false ≡ (t && same xs ys)
+    go : (t : Bool) → false ≡ sameBytes xs ys → false ≡ (t && sameBytes xs ys)
     go true e = e
     go false e = refl
 
-module _ (a b : List ℕ) (i : ℕ) {whole : Bool} (h : i < length a) (g : i < length b) (e : same (drop i a) (drop i b) ≡ whole) where
+module _ (a b : List ℕ) (i : ℕ) {whole : Bool} (h : i < length a) (g : i < length b) (e : sameBytes (drop i a) (drop i b) ≡ whole) where
   pub other-byte : (getD a i 0 ≡ getD b i 0 → ⊥) → false ≡ whole
-  unfolding same
-  other-byte d = sym (ap₂ same (at-head a i h) (at-head b i g) ∙ rw (ne-eqb (getD a i 0) (getD b i 0) d)) ∙ e
+  unfolding sameBytes
+  other-byte d = sym (ap₂ sameBytes (at-head a i h) (at-head b i g) ∙ rw (ne-eqb (getD a i 0) (getD b i 0) d)) ∙ e
 
-  pub same-byte : getD a i 0 ≡ getD b i 0 → same (drop (i + 1) a) (drop (i + 1) b) ≡ whole
-  unfolding same
-  same-byte d = sym (ap₂ same (at-head a i h) (at-head b i g) ∙ rw (eq-eqb (getD a i 0) (getD b i 0) d)) ∙ e
+  pub same-byte : getD a i 0 ≡ getD b i 0 → sameBytes (drop (i + 1) a) (drop (i + 1) b) ≡ whole
+  unfolding sameBytes
+  same-byte d = sym (ap₂ sameBytes (at-head a i h) (at-head b i g) ∙ rw (eq-eqb (getD a i 0) (getD b i 0) d)) ∙ e
 
-pub all-same : (a b : List ℕ) (i : ℕ) {whole : Bool} → length a ≤ i → length b ≤ i → same (drop i a) (drop i b) ≡ whole → true ≡ whole
-unfolding same
-all-same a b i h g e = sym (ap₂ same (drop-of-length-le a h) (drop-of-length-le b g)) ∙ e
+pub all-same : (a b : List ℕ) (i : ℕ) {whole : Bool} → length a ≤ i → length b ≤ i → sameBytes (drop i a) (drop i b) ≡ whole → true ≡ whole
+unfolding sameBytes
+all-same a b i h g e = sym (ap₂ sameBytes (drop-of-length-le a h) (drop-of-length-le b g)) ∙ e
 
 -- the test and the equation
-pub same-is : (a b : List ℕ) → same a b ≡ true → a ≡ b
-unfolding same
+pub same-is : (a b : List ℕ) → sameBytes a b ≡ true → a ≡ b
+unfolding sameBytes
 same-is [] [] e = refl
 same-is [] (y ∷ ys) e = let z : _≡_ {A = ℕ} 0 1 = cc in absurd (omega arith)
 same-is (x ∷ xs) [] e = let z : _≡_ {A = ℕ} 0 1 = cc in absurd (omega arith)
 same-is (x ∷ xs) (y ∷ ys) e =
-    let t = and-true (eqb x y) (same xs ys) e in
+    let t = both-true (eqb x y) (sameBytes xs ys) e in
     ap₂ (λ (n : ℕ) (l : List ℕ). n ∷ l) (eqb-true x y (t .0)) (same-is xs ys (t .1))
-
-pub is-same : (a : List ℕ) → same a a ≡ true
-unfolding same
-is-same [] = refl
-is-same (x ∷ xs) = rw (eq-eqb x x refl) (is-same xs)
 
 -- ---- words
 
@@ -161,15 +157,6 @@ pub last-word : (s : List ℕ) → length s ≤ until 32 s → words s ≡ s ∷
 unfolding words parts
 last-word [] h = refl
 last-word (x ∷ xs) h = last-part 32 ([] ∷ []) (λ y. refl) x xs h
-
--- the lines of an input, by the place of its first LF
-pub first-line : (s : List ℕ) → until 10 s < length s → lines s ≡ take (until 10 s) s ∷ lines (drop (suc (until 10 s)) s)
-unfolding lines
-first-line s h = first-part 10 [] s h
-
-pub last-line : (x : ℕ) (xs : List ℕ) → length (x ∷ xs) ≤ until 10 (x ∷ xs) → lines (x ∷ xs) ≡ (x ∷ xs) ∷ []
-unfolding lines
-last-line x xs h = last-part 10 [] (λ y. refl) x xs h
 
 -- how far the first space is from a place on
 abbrev pub gap : List ℕ → ℕ → ℕ

@@ -12,9 +12,10 @@ use lib.Seq.{sets, getD-drop, drop-drop}
 use lib.Dec.{leb}
 use borrow.Author.Tests.{le-leb, lt-leb, eq-eqb, ne-eqb}
 use Rattle.value.specs.Answer.{pick}
+use Rattle.value.specs.Value.{sameBytes}
 use Rattle.words.specs.Number.{number}
-use Rattle.words.specs.Words.{same, words, parts}
-use Rattle.words.specs.Kinds.{name, kinds, names, kindFrom, kindRead, fits, bitsRead}
+use Rattle.words.specs.Words.{words, parts}
+use Rattle.words.specs.Kinds.{name, names, kindFrom, kindRead, fits, bitsRead}
 use Rattle.words.specs.Pairs.{pairSaid, Said, ended, andMore, valuesFrom, Stored}
 use Rattle.words.specs.declared.Read.the-variants as Read·variants
 use Rattle.words.specs.declared.Pair.{Pair}
@@ -52,7 +53,7 @@ module _ (k b : List ℕ) where
 
 -- a word that can be read is there, and a line has few enough of them to count
 empty-is-no-kind : kindRead [] ≡ Read·variants.Bad
-unfolding kindRead kindFrom names name kinds same
+unfolding kindRead kindFrom names name sameBytes
 empty-is-no-kind = refl
 
 pub words-bound : (s : List ℕ) → length (words s) ≤ length s + 1

@@ -10,7 +10,7 @@ use lib.Seq.{sets, length-sets}
 use borrow.Author.Tests.{le-leb, lt-leb}
 use Rattle.words.specs.Text.{Text, text, put, puts}
 use Rattle.words.specs.declared.Written.the-variants.{To, Full}
-use Rattle.words.proofs.Stores.{sets-append}
+use Rattle.value.proofs.Stores.{sets-append}
 
 -- the bytes of all pieces
 abbrev pub joined : List (List ℕ) → List ℕ

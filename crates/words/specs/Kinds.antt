@@ -6,11 +6,11 @@ use mathlib.Core.List.{List, [], _∷_, _++_, map}
 use lib.ListN.{length, getD, drop, replicate}
 use lib.Dec.{ltb}
 use Rattle.value.specs.Answer.{pick}
-use Rattle.value.specs.Value.{Kind, bool, u8, u16, u32, u64, i8, i16, i32, i64, f32, f64, char, asn, pointer, width}
+use Rattle.value.specs.Value.{Kind, bool, u8, u16, u32, u64, i8, i16, i32, i64, f32, f64, char, asn, pointer, width, sameBytes}
 use Rattle.value.specs.Value.{same as sameKind}
+use Rattle.value.specs.Tags.{kinds}
 use Rattle.words.specs.Ascii.{ascii}
 use Rattle.words.specs.Number.{number}
-use Rattle.words.specs.Words.{same}
 use Rattle.words.specs.declared.Read.{Read}
 use Rattle.words.specs.declared.Read.the-variants.{Number, Bad}
 
@@ -32,10 +32,6 @@ name char = ascii "Char"
 name asn = ascii "Asn"
 name pointer = ascii "Pointer"
 
--- in the order of their tags, 1 to 14
-unfoldable pub kinds : List Kind
-kinds = bool ∷ u8 ∷ u16 ∷ u32 ∷ u64 ∷ i8 ∷ i16 ∷ i32 ∷ i64 ∷ f32 ∷ f64 ∷ char ∷ asn ∷ pointer ∷ []
-
 -- each name at its kind's tag; 0 is no kind's
 unfoldable pub names : List (List ℕ)
 names = [] ∷ map name kinds
@@ -49,7 +45,7 @@ unfoldable pub kindFrom : List ℕ → (tag : ℕ) → List (List ℕ) → Read
 kindFrom w t [] = Bad
 kindFrom w t (n ∷ ns) =
     let more = kindFrom w (suc t) ns in
-    pick (same w n) (Number t) more
+    pick (sameBytes w n) (Number t) more
 
 unfoldable pub kindRead : List ℕ → Read
 kindRead w = kindFrom w 1 (drop 1 names)

@@ -1,19 +1,11 @@
 -- "Words are parted by exactly one space; a line ends with LF, the last one may end with the input."
 use Prim.Native.Nat.{ℕ, zero, suc, _+_, _-_, _≤_}
-use mathlib.Core.Bool.{Bool, true, false, _&&_}
 use mathlib.Core.Path.{_≡_}
 use mathlib.Core.List.{List, [], _∷_}
 use lib.ListN.{length, take, drop}
 use lib.Dec.{eqb}
 use Rattle.value.specs.Answer.{pick}
 use Rattle.words.specs.declared.Span.{Span}
-
--- the same bytes
-unfoldable pub same : List ℕ → List ℕ → Bool
-same [] [] = true
-same [] (y ∷ ys) = false
-same (x ∷ xs) [] = false
-same (x ∷ xs) (y ∷ ys) = eqb x y && same xs ys
 
 -- how many bytes stand before the first b: all of them where there is none
 unfoldable pub until : ℕ → List ℕ → ℕ

@@ -5,10 +5,10 @@ use crate::text::write_bytes;
 use crate::word::same;
 ghost use mathlib.Core.Path.{_≡_};
 ghost use Rattle.words.specs.Text.{text, put};
-ghost use Rattle.words.specs.Words.{same as Words·same};
 ghost use Rattle.words.specs.Kinds.{names as Kinds·names};
 ghost use Rattle.words.specs.Kinds.{rows, rowOf, nameOf, kindRead};
 ghost use Rattle.words.specs.Kinds.{fits as Kinds·fits};
+ghost use Rattle.value.specs.Value.{sameBytes};
 
 // The names in the order of their tags, 1 to 14: eight bytes each, the first its length.
 const NAMES: [u8; 120] = [
@@ -154,7 +154,7 @@ fn size(b: u8) -> usize
 
 // Whether a word is the name of the kind with this tag.
 pub fn is_kind(word: &[u8], tag: u64) -> bool
-    ensures { λ r. ⌜ r ≡ Words·same (now (word .entry)) (nameOf tag) ⌝ }
+    ensures { λ r. ⌜ r ≡ sameBytes (now (word .entry)) (nameOf tag) ⌝ }
 {
     let table = names();
     let head = row(tag) * 8;

@@ -14,7 +14,7 @@ ghost use Rattle.words.specs.Number.{upTo};
 ghost use Rattle.words.specs.Hex.{hexAnswer, hexBuffer};
 ghost use Rattle.words.specs.Kinds.{kindRead, bitsRead};
 ghost use Rattle.words.specs.Words.{until, words, wordAt, Stands};
-ghost use Rattle.words.specs.Words.{same as Words·same};
+ghost use Rattle.value.specs.Value.{sameBytes};
 
 // The first place from `from` on at which the byte stands, or the end.
 pub fn find(s: &[u8], from: usize, b: u8) -> usize
@@ -32,7 +32,7 @@ pub fn find(s: &[u8], from: usize, b: u8) -> usize
 
 // Whether two texts are the same.
 pub fn same(a: &[u8], b: &[u8]) -> bool
-    ensures { λ r. ⌜ r ≡ Words·same (now (a .entry)) (now (b .entry)) ⌝ }
+    ensures { λ r. ⌜ r ≡ sameBytes (now (a .entry)) (now (b .entry)) ⌝ }
 {
     if a.len() != b.len() {
         return false;
@@ -85,7 +85,7 @@ pub fn word(line: &[u8], k: usize) -> Span
 
 // Whether the word at `k` is this one.
 pub fn is_word(line: &[u8], k: usize, text: &[u8]) -> bool
-    ensures { λ r. ⌜ r ≡ Words·same (getD (words (now (line .entry))) k []) (now (text .entry)) ⌝ }
+    ensures { λ r. ⌜ r ≡ sameBytes (getD (words (now (line .entry))) k []) (now (text .entry)) ⌝ }
 {
     let s = word(line, k);
     let from = s.from;

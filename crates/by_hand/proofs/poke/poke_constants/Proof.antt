@@ -1,10 +1,11 @@
 -- `poke::poke_constants` meets its contract.
 use Prim.Native.Nat.{ℕ, _-_, min}
 use mathlib.Core.Path.{ap, _∙_}
-use Rattle.by_hand.specs.Changes.{constantsPut, withPointers}
+use Rattle.by_hand.specs.Changes.{constantsPut}
 use borrow.Author.Needs.{needs}
 use Rattle.by_hand.proofs.poke.poke_constants.Statement.{statement}
 use Rattle.by_hand.proofs.poke.poke_constants.Tie as tie
+use Rattle.memory.specs.Tables.{withPointers}
 
 more-requires : tie.Need-more-requires
 more-requires c κs = search needs

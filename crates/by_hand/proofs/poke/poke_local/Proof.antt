@@ -1,10 +1,10 @@
 -- `poke::poke_local` meets its contract.
 use mathlib.Core.Path.{ap}
 use Prim.Native.Nat.{ℕ}
-use Rattle.by_hand.specs.Changes.{withPointers}
 use borrow.Author.Needs.{needs}
 use Rattle.by_hand.proofs.poke.poke_local.Statement.{statement}
 use Rattle.by_hand.proofs.poke.poke_local.Tie as tie
+use Rattle.memory.specs.Tables.{withPointers}
 
 put-pointer-requires : tie.Need-put-pointer-requires
 put-pointer-requires c κs = search needs

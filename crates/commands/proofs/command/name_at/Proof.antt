@@ -2,15 +2,16 @@
 use Prim.Native.Nat.{_+_, _-_, _≤_}
 use native.Mathlib.Nat.{zero-add}
 use native.Mathlib.Omega.{arith}
-use mathlib.Core.Path.{_≡_, refl, sym, ap, _∙_}
-use mathlib.Core.List.{List, []}
+use mathlib.Core.Path.{_≡_, sym, ap, _∙_}
+use mathlib.Core.List.{[]}
 use lib.ListN.{length, getD, drop}
-use Rattle.words.specs.Words.{same, words}
+use Rattle.words.specs.Words.{words}
 use Rattle.commands.specs.Commands.{placeOf}
 use Rattle.commands.proofs.Naming.{is-there, is-not, is-nowhere}
 use borrow.Author.Needs.{needs}
 use Rattle.commands.proofs.command.name_at.Statement.{statement}
 use Rattle.commands.proofs.command.name_at.Tie as tie
+use Rattle.value.specs.Value.{sameBytes}
 
 abbrev Inv-loop : tie.InvT-loop
 Inv-loop line k names from to count i₀ i = (i + placeOf (getD (words line) k []) (drop i (words names)) ≡ placeOf (getD (words line) k []) (words names)) × (count ≡ length (words names)) × (i ≤ count)
@@ -40,7 +41,7 @@ is-word-requires : tie.Need-is-word-requires Inv-loop μ-loop
 is-word-requires c κs = search needs
 
 returns : tie.Need-returns Inv-loop μ-loop
-returns c = is-there _ (words (c .before .before .before .before .before .before .before .before .before .args .names .now)) (c .before .before .before .before .loop .i) (c .before .before .before .before .loop .inv .0) (omega (arith, c .before .before .before .before .loop .inv .1)) (ap (same (getD (words (c .before .before .before .before .before .before .before .before .before .args .names .now)) (c .before .before .before .before .loop .i) [])) (sym (c .before .before .before .before .before .before .word .ensures .1 .are)) ∙ sym (c .before .is-word .ensures) ∙ c .if1 .taken)
+returns c = is-there _ (words (c .before .before .before .before .before .before .before .before .before .args .names .now)) (c .before .before .before .before .loop .i) (c .before .before .before .before .loop .inv .0) (omega (arith, c .before .before .before .before .loop .inv .1)) (ap (sameBytes (getD (words (c .before .before .before .before .before .before .before .before .before .args .names .now)) (c .before .before .before .before .loop .i) [])) (sym (c .before .before .before .before .before .before .word .ensures .1 .are)) ∙ sym (c .before .is-word .ensures) ∙ c .if1 .taken)
 
 add-i : tie.Need-add-i Inv-loop μ-loop
 add-i c = omega arith
@@ -49,7 +50,7 @@ loop-less : tie.Need-loop-less Inv-loop μ-loop
 loop-less c = omega arith
 
 loop-again : tie.Need-loop-again Inv-loop μ-loop
-loop-again c = (is-not _ (words (c .before .before .before .before .before .before .before .before .before .args .names .now)) (c .before .before .before .before .loop .i) (c .before .before .before .before .loop .inv .0) (omega (arith, c .before .before .before .before .loop .inv .1)) (ap (same (getD (words (c .before .before .before .before .before .before .before .before .before .args .names .now)) (c .before .before .before .before .loop .i) [])) (sym (c .before .before .before .before .before .before .word .ensures .1 .are)) ∙ sym (c .before .is-word .ensures) ∙ c .if1 .left), c .before .before .before .before .loop .inv .1, omega arith)
+loop-again c = (is-not _ (words (c .before .before .before .before .before .before .before .before .before .args .names .now)) (c .before .before .before .before .loop .i) (c .before .before .before .before .loop .inv .0) (omega (arith, c .before .before .before .before .loop .inv .1)) (ap (sameBytes (getD (words (c .before .before .before .before .before .before .before .before .before .args .names .now)) (c .before .before .before .before .loop .i) [])) (sym (c .before .before .before .before .before .before .word .ensures .1 .are)) ∙ sym (c .before .is-word .ensures) ∙ c .if1 .left), c .before .before .before .before .loop .inv .1, omega arith)
 
 returns-2 : tie.Need-returns-2 Inv-loop μ-loop
 returns-2 c = is-nowhere _ (words (c .before .before .before .before .before .before .args .names .now)) (c .before .loop .i) (c .before .loop .inv .0) (omega (arith, c .before .loop .inv .1))

@@ -25,23 +25,23 @@ loop-holds c = (omega arith, every-none (valueAt (c .before .before .args .tags 
 returns : tie.Need-returns Inv-loop μ-loop
 returns c = sym (every-not (length (c .before .before .before .before .before .args .tags .now)) (valueAt (c .before .before .before .before .before .args .tags .now) (c .before .before .before .before .before .args .bits .now)) (c .before .before .loop .k) (omega arith) (value-short _ _ _ (omega arith)))
 
-mul-is-value : tie.Need-mul-is-value Inv-loop μ-loop
-mul-is-value c = search needs
+mul-fits : tie.Need-mul-fits Inv-loop μ-loop
+mul-fits c = search needs
 
-shared-slice-read-is-value : tie.Need-shared-slice-read-is-value Inv-loop μ-loop
-shared-slice-read-is-value c = omega arith
+shared-slice-read-fits : tie.Need-shared-slice-read-fits Inv-loop μ-loop
+shared-slice-read-fits c = omega arith
 
-mul-is-value-2 : tie.Need-mul-is-value-2 Inv-loop μ-loop
-mul-is-value-2 c = search needs
+mul-fits-2 : tie.Need-mul-fits-2 Inv-loop μ-loop
+mul-fits-2 c = search needs
 
-shared-slice-read-is-value-2 : tie.Need-shared-slice-read-is-value-2 Inv-loop μ-loop
-shared-slice-read-is-value-2 c = omega arith
+shared-slice-read-fits-2 : tie.Need-shared-slice-read-fits-2 Inv-loop μ-loop
+shared-slice-read-fits-2 c = omega arith
 
-is-value-requires : tie.Need-is-value-requires Inv-loop μ-loop
-is-value-requires c κs = search needs
+fits-requires : tie.Need-fits-requires Inv-loop μ-loop
+fits-requires c κs = search needs
 
 returns-2 : tie.Need-returns-2 Inv-loop μ-loop
-returns-2 c = sym (every-not (length (c .before .before .before .before .before .before .before .before .before .args .tags .now)) (valueAt (c .before .before .before .before .before .before .before .before .before .args .tags .now) (c .before .before .before .before .before .before .before .before .before .args .bits .now)) (c .before .before .before .before .before .before .loop .k) (omega arith) (value-here _ _ _ _ (omega arith) (sym (c .before .is-value .ensures) ∙ not-true _ (c .if2 .taken))))
+returns-2 c = sym (every-not (length (c .before .before .before .before .before .before .before .before .before .args .tags .now)) (valueAt (c .before .before .before .before .before .before .before .before .before .args .tags .now) (c .before .before .before .before .before .before .before .before .before .args .bits .now)) (c .before .before .before .before .before .before .loop .k) (omega arith) (value-here _ _ _ _ (omega arith) (sym (c .before .fits2 .ensures) ∙ not-true _ (c .if2 .taken))))
 
 add-k : tie.Need-add-k Inv-loop μ-loop
 add-k c = omega arith
@@ -50,7 +50,7 @@ loop-less : tie.Need-loop-less Inv-loop μ-loop
 loop-less c = omega arith
 
 loop-again : tie.Need-loop-again Inv-loop μ-loop
-loop-again c = (omega arith, every-more (c .before .before .before .before .before .before .loop .k) (valueAt (c .before .before .before .before .before .before .before .before .before .args .tags .now) (c .before .before .before .before .before .before .before .before .before .args .bits .now)) (c .before .before .before .before .before .before .loop .inv .1) (value-here _ _ _ _ (omega arith) (sym (c .before .is-value .ensures) ∙ not-false _ (c .if2 .left))))
+loop-again c = (omega arith, every-more (c .before .before .before .before .before .before .loop .k) (valueAt (c .before .before .before .before .before .before .before .before .before .args .tags .now) (c .before .before .before .before .before .before .before .before .before .args .bits .now)) (c .before .before .before .before .before .before .loop .inv .1) (value-here _ _ _ _ (omega arith) (sym (c .before .fits2 .ensures) ∙ not-false _ (c .if2 .left))))
 
 returns-3 : tie.Need-returns-3 Inv-loop μ-loop
 returns-3 c = let e : c .before .loop .k ≡ length (c .before .before .before .before .args .tags .now) = omega arith in sym (ap (λ k. every k (valueAt (c .before .before .before .before .args .tags .now) (c .before .before .before .before .args .bits .now))) (sym e) ∙ c .before .loop .inv .1)
@@ -63,11 +63,11 @@ are-values-spec =
     μ-loop
     loop-holds
     returns
-    mul-is-value
-    shared-slice-read-is-value
-    mul-is-value-2
-    shared-slice-read-is-value-2
-    is-value-requires
+    mul-fits
+    shared-slice-read-fits
+    mul-fits-2
+    shared-slice-read-fits-2
+    fits-requires
     returns-2
     add-k
     loop-less

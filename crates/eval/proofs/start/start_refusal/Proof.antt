@@ -25,20 +25,20 @@ is-wanted-requires c κs = search needs
 returns-3 : tie.Need-returns-3
 returns-3 c = start-wrong _ _ _ _ _ _ _ (c .before .before .before .before .before .if1 .left) (omega arith) (wanted-there _ _ _ (c .before .before .before .before .before .before .before .before .before .before .before .args .tags .now) (c .before .before .before .place-in .result) (c .before .before .read-callee .result) (c .before .is-wanted .result) (c .before .before .before .place-in .ensures) (c .before .before .read-callee .ensures) (c .before .is-wanted .ensures) ∙ not-true _ (c .if3 .taken))
 
-is-value-requires : tie.Need-is-value-requires
-is-value-requires c κs = search needs
+fits-requires : tie.Need-fits-requires
+fits-requires c κs = search needs
 
 returns-4 : tie.Need-returns-4
-returns-4 c = start-bad _ _ _ _ _ _ _ (c .before .before .before .before .before .before .before .if1 .left) (omega arith) (wanted-there _ _ _ (c .before .before .before .before .before .before .before .before .before .before .before .before .before .args .tags .now) (c .before .before .before .before .before .place-in .result) (c .before .before .before .before .read-callee .result) (c .before .before .before .is-wanted .result) (c .before .before .before .before .before .place-in .ensures) (c .before .before .before .before .read-callee .ensures) (c .before .before .before .is-wanted .ensures) ∙ not-false _ (c .before .before .if3 .left)) (sym (c .before .is-value .ensures) ∙ not-true _ (c .if4 .taken))
+returns-4 c = start-bad _ _ _ _ _ _ _ (c .before .before .before .before .before .before .before .if1 .left) (omega arith) (wanted-there _ _ _ (c .before .before .before .before .before .before .before .before .before .before .before .before .before .args .tags .now) (c .before .before .before .before .before .place-in .result) (c .before .before .before .before .read-callee .result) (c .before .before .before .is-wanted .result) (c .before .before .before .before .before .place-in .ensures) (c .before .before .before .before .read-callee .ensures) (c .before .before .before .is-wanted .ensures) ∙ not-false _ (c .before .before .if3 .left)) (sym (c .before .fits2 .ensures) ∙ not-true _ (c .if4 .taken))
 
 are-values-requires : tie.Need-are-values-requires
 are-values-requires c κs = search needs
 
 returns-5 : tie.Need-returns-5
-returns-5 c = start-worse _ _ _ _ _ _ _ (c .before .before .before .before .before .before .before .before .before .if1 .left) (omega arith) (wanted-there _ _ _ (c .before .before .before .before .before .before .before .before .before .before .before .before .before .before .before .args .tags .now) (c .before .before .before .before .before .before .before .place-in .result) (c .before .before .before .before .before .before .read-callee .result) (c .before .before .before .before .before .is-wanted .result) (c .before .before .before .before .before .before .before .place-in .ensures) (c .before .before .before .before .before .before .read-callee .ensures) (c .before .before .before .before .before .is-wanted .ensures) ∙ not-false _ (c .before .before .before .before .if3 .left)) (sym (c .before .before .before .is-value .ensures) ∙ not-false _ (c .before .before .if4 .left)) (sym (c .before .are-values .ensures) ∙ not-true _ (c .if5 .taken))
+returns-5 c = start-worse _ _ _ _ _ _ _ (c .before .before .before .before .before .before .before .before .before .if1 .left) (omega arith) (wanted-there _ _ _ (c .before .before .before .before .before .before .before .before .before .before .before .before .before .before .before .args .tags .now) (c .before .before .before .before .before .before .before .place-in .result) (c .before .before .before .before .before .before .read-callee .result) (c .before .before .before .before .before .is-wanted .result) (c .before .before .before .before .before .before .before .place-in .ensures) (c .before .before .before .before .before .before .read-callee .ensures) (c .before .before .before .before .before .is-wanted .ensures) ∙ not-false _ (c .before .before .before .before .if3 .left)) (sym (c .before .before .before .fits2 .ensures) ∙ not-false _ (c .before .before .if4 .left)) (sym (c .before .are-values .ensures) ∙ not-true _ (c .if5 .taken))
 
 returns-6 : tie.Need-returns-6
-returns-6 c = start-good _ _ _ _ _ _ _ (c .before .before .before .before .before .before .before .before .before .if1 .left) (omega arith) (wanted-there _ _ _ (c .before .before .before .before .before .before .before .before .before .before .before .before .before .before .before .args .tags .now) (c .before .before .before .before .before .before .before .place-in .result) (c .before .before .before .before .before .before .read-callee .result) (c .before .before .before .before .before .is-wanted .result) (c .before .before .before .before .before .before .before .place-in .ensures) (c .before .before .before .before .before .before .read-callee .ensures) (c .before .before .before .before .before .is-wanted .ensures) ∙ not-false _ (c .before .before .before .before .if3 .left)) (sym (c .before .before .before .is-value .ensures) ∙ not-false _ (c .before .before .if4 .left)) (sym (c .before .are-values .ensures) ∙ not-false _ (c .if5 .left))
+returns-6 c = start-good _ _ _ _ _ _ _ (c .before .before .before .before .before .before .before .before .before .if1 .left) (omega arith) (wanted-there _ _ _ (c .before .before .before .before .before .before .before .before .before .before .before .before .before .before .before .args .tags .now) (c .before .before .before .before .before .before .before .place-in .result) (c .before .before .before .before .before .before .read-callee .result) (c .before .before .before .before .before .is-wanted .result) (c .before .before .before .before .before .before .before .place-in .ensures) (c .before .before .before .before .before .before .read-callee .ensures) (c .before .before .before .before .before .is-wanted .ensures) ∙ not-false _ (c .before .before .before .before .if3 .left)) (sym (c .before .before .before .fits2 .ensures) ∙ not-false _ (c .before .before .if4 .left)) (sym (c .before .are-values .ensures) ∙ not-false _ (c .if5 .left))
 
 pub start-refusal-spec : {M : Type 1} → statement M
 start-refusal-spec =
@@ -50,7 +50,7 @@ start-refusal-spec =
     read-callee-requires
     is-wanted-requires
     returns-3
-    is-value-requires
+    fits-requires
     returns-4
     are-values-requires
     returns-5

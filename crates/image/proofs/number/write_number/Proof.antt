@@ -6,7 +6,7 @@ use mathlib.Core.Path.{_≡_, refl, ap}
 use lib.ListN.{length, length-set}
 use lib.Seq.{sets}
 use Rattle.image.specs.Number.{bytesFrom, bytesOf}
-use Rattle.image.proofs.Bytes.{last-byte, more-bytes, Held, held-spare, held-less, write-more, write-last, wrote, no-room}
+use Rattle.image.proofs.Bytes.{last-byte, more-bytes, Held, held-spare, held-less, write-more, write-last, stored, no-room}
 use Rattle.image.proofs.number.write_number.Statement.{statement}
 use Rattle.image.proofs.number.write_number.Tie as tie
 
@@ -21,13 +21,13 @@ length-of-requires : tie.Need-length-of-requires Inv-loop μ-loop
 length-of-requires c κs = search needs
 
 returns : tie.Need-returns Inv-loop μ-loop
-returns c = no-room (c .before .before .before .args .v) (c .before .before .before .args .start) (c .before .before .before .args .out .now) (omega arith)
+returns c = no-room (bytesOf (c .before .before .before .args .v)) (c .before .before .before .args .start) (c .before .before .before .args .out .now) (omega arith)
 
 sub-if2 : tie.Need-sub-if2 Inv-loop μ-loop
 sub-if2 c = search needs
 
 returns-2 : tie.Need-returns-2 Inv-loop μ-loop
-returns-2 c = no-room (c .before .before .before .before .args .v) (c .before .before .before .before .args .start) (c .before .before .before .before .args .out .now) (omega arith)
+returns-2 c = no-room (bytesOf (c .before .before .before .before .args .v)) (c .before .before .before .before .args .start) (c .before .before .before .before .args .out .now) (omega arith)
 
 loop-holds : tie.Need-loop-holds Inv-loop μ-loop
 unfolding bytesOf
@@ -76,7 +76,7 @@ same-length c = simp length-set (c .before .loop .inv .3)
 returns-3 : tie.Need-returns-3 Inv-loop μ-loop
 returns-3 c =
     let l = c .before .loop in
-    wrote (c .before .before .before .before .before .before .args .v) (c .before .before .before .before .before .before .args .start) (c .before .before .before .before .before .before .args .out .now) (l .at + 1) _ (omega arith) (omega (arith, ap length (last-byte (c .before .loop .spare) (c .before .loop .left) (c .loop-test .left)))) (write-last (l .out) (l .at) (l .spare) (l .left) (c .loop-test .left) (l .inv .0))
+    stored (bytesOf (c .before .before .before .before .before .before .args .v)) (c .before .before .before .before .before .before .args .start) (c .before .before .before .before .before .before .args .out .now) (l .at + 1) _ (omega arith) (omega (arith, ap length (last-byte (c .before .loop .spare) (c .before .loop .left) (c .loop-test .left)))) (write-last (l .out) (l .at) (l .spare) (l .left) (c .loop-test .left) (l .inv .0))
 
 pub write-number-spec : {M : Type 1} → statement M
 write-number-spec =

@@ -5,7 +5,8 @@ use borrow.Author.Needs.{needs}
 use mathlib.Core.Path.{_≡_, refl, ap}
 use lib.ListN.{length, drop, length-set}
 use lib.Seq.{sets}
-use Rattle.image_writer.proofs.Stores.{stored, no-room, one-byte, last-byte}
+use Rattle.value.proofs.Stores.{copy-more, copy-done}
+use Rattle.image.proofs.Bytes.{stored, no-room}
 use Rattle.image_writer.proofs.field.write_bytes.Statement.{statement}
 use Rattle.image_writer.proofs.field.write_bytes.Tie as tie
 
@@ -46,7 +47,7 @@ loop-again : tie.Need-loop-again Inv-loop μ-loop
 loop-again c =
     let a = c .before .before .before .before .before .args in
     let l = c .before .before .loop in
-    (one-byte (a .raw .now) (a .start) (l .out) (l .i) (omega arith) (l .inv .0), omega arith, simp length-set (l .inv .2))
+    (copy-more (l .out) (a .start) (l .i) (a .raw .now) (omega arith) (l .inv .0), omega arith, simp length-set (l .inv .2))
 
 add-t7 : tie.Need-add-t7 Inv-loop μ-loop
 add-t7 c = omega arith
@@ -58,7 +59,7 @@ returns-3 : tie.Need-returns-3 Inv-loop μ-loop
 returns-3 c =
     let a = c .before .before .before .before .args in
     let l = c .before .loop in
-    stored (a .raw .now) (a .start) (a .out .now) _ _ (omega arith) refl (last-byte (a .raw .now) (a .start) (l .out) (l .i) (omega arith) (l .inv .0))
+    stored (a .raw .now) (a .start) (a .out .now) _ _ (omega arith) refl (copy-done (l .out) (a .start) (l .i) (a .raw .now) (omega arith) (l .inv .0))
 
 pub write-bytes-spec : {M : Type 1} → statement M
 write-bytes-spec =

@@ -4,7 +4,8 @@ use borrow.Author.Needs.{needs}
 use mathlib.Core.List.{_++_}
 use lib.ListN.{length-append}
 use Rattle.image.specs.Number.{bytesOf}
-use Rattle.image_writer.proofs.Stores.{no-room, of-number, both, never-full, number-length}
+use Rattle.image.proofs.Bytes.{no-room}
+use Rattle.image_writer.proofs.Stores.{both, never-full, number-length}
 use Rattle.image_writer.proofs.field.write_pair.Statement.{statement}
 use Rattle.image_writer.proofs.field.write_pair.Tie as tie
 
@@ -50,7 +51,7 @@ returns-3 c =
     let a = c .before .before .before .before .before .before .before .before .before .before .before .before .before .before .before .before .args in
     let w = c .before .before .before .before .before .before .before .before .before .write-number in
     both (bytesOf (a .first)) (bytesOf (a .second)) (a .start) (a .out .now) (omega (arith, length-append (bytesOf (a .first)) (bytesOf (a .second))))
-    (w .result) _ _ _ _ (of-number (w .ensures)) (c .before .before .before .before .before .at .given .1) (of-number (c .before .before .write-number2 .ensures))
+    (w .result) _ _ _ _ (w .ensures) (c .before .before .before .before .before .at .given .1) (c .before .before .write-number2 .ensures)
 
 same-length-2 : tie.Need-same-length-2
 same-length-2 c = search needs
@@ -60,7 +61,7 @@ returns-4 c =
     let a = c .before .before .before .before .before .before .before .before .before .before .before .args in
     let w = c .before .before .before .before .write-number in
     never-full (bytesOf (a .first)) (bytesOf (a .second)) (a .start) (a .out .now) (omega (arith, length-append (bytesOf (a .first)) (bytesOf (a .second))))
-    (w .result) _ (of-number (w .ensures)) (c .enum-told .given .1)
+    (w .result) _ (w .ensures) (c .enum-told .given .1)
 
 pub write-pair-spec : {M : Type 1} → statement M
 write-pair-spec =

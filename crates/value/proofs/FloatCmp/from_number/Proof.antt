@@ -1,7 +1,7 @@
 -- `from_number`: each number names its comparison, and no other number names one.
 use Rattle.value.specs.Tags.{floatCmpAt}
 use Rattle.value.specs.Compare.{irFloatCmp, floatComparison}
-use Rattle.value.proofs.Switching.{no-float}
+use Rattle.value.proofs.Comparisons.{no-float}
 use Rattle.value.proofs.FloatCmp.from_number.Statement.{statement}
 use Rattle.value.proofs.FloatCmp.from_number.Tie as tie
 

@@ -1,7 +1,7 @@
 -- `from_number`: each number names its comparison, and no other number names one.
 use Rattle.value.specs.Tags.{intCmpAt}
 use Rattle.value.specs.Compare.{irIntCmp, intComparison}
-use Rattle.value.proofs.Switching.{no-int}
+use Rattle.value.proofs.Comparisons.{no-int}
 use Rattle.value.proofs.IntCmp.from_number.Statement.{statement}
 use Rattle.value.proofs.IntCmp.from_number.Tie as tie
 

@@ -3,11 +3,11 @@ use mathlib.Core.Path.{_∙_, ap}
 use native.Mathlib.Omega.{arith}
 use lib.ListN.{length}
 use denote.Ref.{now}
-use Rattle.words.specs.Words.{same}
 use Rattle.words.proofs.Names.{rows-count, row-small, name-short, name-there}
 use borrow.Author.Needs.{needs}
 use Rattle.words.proofs.kind.is_kind.Statement.{statement}
 use Rattle.words.proofs.kind.is_kind.Tie as tie
+use Rattle.value.specs.Value.{sameBytes}
 
 names-requires : tie.Need-names-requires
 names-requires c κs = search needs
@@ -43,7 +43,7 @@ same-requires : tie.Need-same-requires
 same-requires c κs = search needs
 
 returns : tie.Need-returns
-returns c = c .same .ensures ∙ ap (same (c .before .before .before .before .before .before .before .args .word .now)) (name-there (c .before .before .before .before .before .names .result) (c .before .before .before .before .row .result) (c .before .before .before .size .result) (c .before .before .before .before .before .before .before .args .tag) (c .before .before .before .before .before .names .ensures) (c .before .before .before .before .row .ensures) (c .before .before .before .size .ensures))
+returns c = c .same .ensures ∙ ap (sameBytes (c .before .before .before .before .before .before .before .args .word .now)) (name-there (c .before .before .before .before .before .names .result) (c .before .before .before .before .row .result) (c .before .before .before .size .result) (c .before .before .before .before .before .before .before .args .tag) (c .before .before .before .before .before .names .ensures) (c .before .before .before .before .row .ensures) (c .before .before .before .size .ensures))
 
 pub is-kind-spec : {M : Type 1} → statement M
 is-kind-spec =

@@ -5,7 +5,7 @@ use native.Mathlib.Omega.{arith}
 use mathlib.Core.Path.{_≡_, refl}
 use lib.ListN.{length, drop, length-set}
 use lib.Seq.{sets}
-use Rattle.words.proofs.Stores.{copy-more, copy-done}
+use Rattle.value.proofs.Stores.{copy-more, copy-done}
 use Rattle.words.proofs.text.copy.Statement.{statement}
 use Rattle.words.proofs.text.copy.Tie as tie
 

@@ -2,10 +2,10 @@
 use Prim.Native.Nat.{ℕ}
 use mathlib.Core.Path.{_∙_, ap}
 use mathlib.Core.List.{List}
-use Rattle.words.specs.Words.{same}
 use borrow.Author.Needs.{needs}
 use Rattle.words.proofs.word.is_word.Statement.{statement}
 use Rattle.words.proofs.word.is_word.Tie as tie
+use Rattle.value.specs.Value.{sameBytes}
 
 word-requires : tie.Need-word-requires
 word-requires c κs = search needs
@@ -23,7 +23,7 @@ same-requires : tie.Need-same-requires
 same-requires c κs = search needs
 
 returns : tie.Need-returns
-returns c = c .same .ensures ∙ ap (λ (w : List ℕ). same w (c .before .before .before .before .before .args .text .now)) (c .before .before .word .ensures .1 .are)
+returns c = c .same .ensures ∙ ap (λ (w : List ℕ). sameBytes w (c .before .before .before .before .before .args .text .now)) (c .before .before .word .ensures .1 .are)
 
 pub is-word-spec : {M : Type 1} → statement M
 is-word-spec =

@@ -3,13 +3,13 @@ use Prim.Native.Nat.{_≤_, _-_}
 use native.Mathlib.Omega.{arith}
 use mathlib.Core.Path.{_≡_, refl}
 use lib.ListN.{length, drop}
-use Rattle.words.specs.Words.{same}
 use Rattle.words.proofs.Parting.{other-length, other-byte, same-byte, all-same}
 use Rattle.words.proofs.word.same.Statement.{statement}
 use Rattle.words.proofs.word.same.Tie as tie
+use Rattle.value.specs.Value.{sameBytes}
 
 abbrev Inv-loop : tie.InvT-loop
-Inv-loop a b i₀ i = (same (drop i a) (drop i b) ≡ same a b) × (i ≤ length a)
+Inv-loop a b i₀ i = (sameBytes (drop i a) (drop i b) ≡ sameBytes a b) × (i ≤ length a)
 
 abbrev μ-loop : tie.MeasureT-loop
 μ-loop a b i₀ i = length a - i

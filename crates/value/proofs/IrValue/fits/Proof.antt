@@ -6,8 +6,8 @@ use borrow.Author.Tests.{lt-ltb}
 use Rattle.value.specs.Value.{bool, u8, u16, u32, u64, i8, i16, i32, i64, f32, f64, char, asn, pointer, tag}
 use Rattle.value.specs.Tags.{holds, held}
 use Rattle.value.proofs.Tags.{held-at, no-kind}
-use Rattle.value.proofs.bits.fits.Statement.{statement}
-use Rattle.value.proofs.bits.fits.Tie as tie
+use Rattle.value.proofs.IrValue.fits.Statement.{statement}
+use Rattle.value.proofs.IrValue.fits.Tie as tie
 
 returns : tie.Need-returns
 unfolding tag holds
