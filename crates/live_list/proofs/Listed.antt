@@ -11,7 +11,7 @@ use Rattle.memory.specs.declared.LiveRecord.{LiveRecord}
 use Rattle.memory.specs.declared.Outcome.the-variants as outcome
 use Rattle.memory.specs.declared.Place.{Place}
 use Rattle.memory.specs.declared.PointerRecord.{PointerRecord}
-use Rattle.memory.proofs.Laws.{both-true}
+use Rattle.value.proofs.Truth.{both-true}
 use Rattle.live_list.specs.Record.{inTables, recordIn}
 
 stands-there : (d : ℕ) (fr : List ℕ) (q : PointerRecord) → d ≤ 64 → length fr ≡ 260 → standsOf d fr q ≡ standingOf d fr q
