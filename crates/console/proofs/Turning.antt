@@ -1,12 +1,11 @@
 -- A command's parts together are what it leaves: what the entry gave, the registers after it, and the line that was written.
-use Prim.Native.Nat.{ℕ, _+_, _-_, _<_, _≤_, min}
-use native.Mathlib.Nat.{min-eq-left, min-eq-right, min-le-right}
-use native.Mathlib.Decide.{decLe}
+use Prim.Native.Nat.{ℕ, _+_, _<_, _≤_, min}
+use native.Mathlib.Nat.{min-le-right}
 use native.Mathlib.Omega.{arith}
 use mathlib.Core.Bool.{Bool, true, false}
 use mathlib.Core.Path.{_≡_, refl, sym, ap, ap₂, _∙_}
 use mathlib.Core.List.{List}
-use lib.ListN.{length, getD, take, drop, replicate, length-take}
+use lib.ListN.{length, take, replicate, length-take}
 use lib.Seq.{sets}
 use lib.Dec.{leb, eqb}
 use borrow.Author.Tests.{eq-eqb, ne-eqb, lt-ltb, le-ltb, le-leb, lt-leb}
@@ -23,49 +22,23 @@ use Rattle.memory.specs.declared.Moved.{Moved}
 use Rattle.memory.specs.declared.Given.{Given}
 use Rattle.memory.specs.declared.Outcome.{Outcome}
 use Rattle.memory.specs.Tables.{State, state, tables, Both, both, All, all, Out, out, freshOf}
-use Rattle.instruction.specs.declared.variables.Found.{Found}
-use Rattle.instruction.specs.Variables.{found}
 use Rattle.run.specs.Run.{Running, running}
 use Rattle.eval.specs.Entry.{Entering, entering, Reading, readOut, runEntered, stepEntered, readEntered}
 use Rattle.eval.specs.declared.entry.Readout.{Readout}
 use Rattle.image_writer.specs.Answer.{Rewrote}
 use Rattle.image_writer.specs.declared.writer.Outcome.{Outcome as Rewritten}
-use Rattle.eval.specs.Start.{startEntered}
 use Rattle.eval.specs.Host.{hostAllocated, hostWritten}
 use Rattle.run.specs.declared.Ran.{Ran}
 use Rattle.eval.specs.declared.entry.Entered.{Entered}
 use Rattle.eval.specs.After.{afterMoved, afterEntered, afterRun, afterGiven}
 use Rattle.console.specs.declared.Told.{Told}
 use Rattle.console.specs.declared.Turn.{Turn}
-use Rattle.console.specs.Told.{line, ranLine, startLine, stepLine, freshLine, givenLine, outcomeLine, readLine, rewrittenLine}
-use Rattle.console.specs.Listed.{liveLineOf}
+use Rattle.telling.specs.Told.{line, ranLine, startLine, stepLine, freshLine, givenLine, outcomeLine, readLine, rewrittenLine}
+use Rattle.telling.specs.Listed.{liveLineOf}
+use Rattle.telling.specs.Runs.{begunOf, budgetOf, unreadLine, zeros}
 use Rattle.console.specs.Turns as T
 use Rattle.console.specs.Turns.{done, still, registersOf, fromEntering, fromRunning, fromAll, fromOut, fromBoth, fromPoked, Left, left, told, leaving, turn, Kept, kept, keptFrom, keeping}
-use Rattle.console.proofs.Telling.{take-least, part-told}
-
--- ---- a start's values
-
--- the first value is left out
-module _ (end : ℕ) (l : List ℕ) where
-  pub first-out : (from : ℕ) → from ≡ min 1 end → take (end - from) (drop from l) ≡ T.argumentsOf end l
-  first-out from e =
-      elim (decLe 1 end) [
-        | yes h ↦ let q : from ≡ 1 = e ∙ min-eq-left h in ap (λ (k : ℕ). take (end - k) (drop k l)) q
-        | no h ↦
-            let z : end ≡ 0 = omega arith in
-            let q : from ≡ 0 = e ∙ ap (min 1) z ∙ min-eq-right {n = 0} {m = 1} (omega arith) in
-            ap₂ (λ (n k : ℕ). take (n - k) (drop k l)) z q ∙ ap (λ (n : ℕ). take (n - 1) (drop 1 l)) (sym z)
-      ]
-
-module _ (s : List ℕ) (function count : ℕ) (ts bs : List ℕ) (t : State) {tag bits both end from : ℕ} {r : Entering} where
-  pub begins : tag ≡ getD ts 0 0 → bits ≡ getD bs 0 0 → both ≡ min (length ts) (length bs) → end ≡ min count both → from ≡ min 1 end
-      → r ≡ startEntered s function (found tag bits) (take (end - from) (drop from ts)) (take (end - from) (drop from bs)) t → r ≡ T.begunOf s function count ts bs t
-  unfolding T.begunOf
-  begins a b i k f h =
-      let e : end ≡ T.valueCount count ts bs = k ∙ ap (min count) i in
-      h ∙ ap₂ (λ (x y : List ℕ). startEntered s function (found tag bits) x y t) (first-out end ts from f ∙ ap (λ (n : ℕ). T.argumentsOf n ts) e)
-      (first-out end bs from f ∙ ap (λ (n : ℕ). T.argumentsOf n bs) e)
-      ∙ ap₂ (λ (x y : ℕ). startEntered s function (found x y) (T.argumentsOf (T.valueCount count ts bs) ts) (T.argumentsOf (T.valueCount count ts bs) bs) t) a b
+use Rattle.telling.proofs.Telling.{take-least, part-told}
 
 -- ---- what is told
 
@@ -79,7 +52,7 @@ module _ (before : List ℕ) {r : Told} {m : Registers} {w : Written} {after s f
     entered-tells tell {e} x a q h =
         tells (tell e) h ∙ ap (λ (y : Registers). leaving before (done y s f b p v (tell e))) q ∙ ap (λ (y : Entering). leaving before (fromEntering t (tell (y .answer)) y)) a
 
-    pub start-tells : (image : List ℕ) (a : Asked) (ts bs : List ℕ) {e : Entered} → entering e s f b p v ≡ T.begunOf image (a .first) (a .count) ts bs t
+    pub start-tells : (image : List ℕ) (a : Asked) (ts bs : List ℕ) {e : Entered} → entering e s f b p v ≡ begunOf image (a .first) (a .count) ts bs t
         → m ≡ afterEntered e (registersOf t) → text w after ≡ line (startLine e) before → left r after s f b p v ≡ leaving before (T.startDone image a ts bs t)
     unfolding T.startDone
     start-tells image a ts bs x q h = entered-tells startLine _ x q h
@@ -89,7 +62,7 @@ module _ (before : List ℕ) {r : Told} {m : Registers} {w : Written} {after s f
     unfolding T.stepDone
     step-tells image x q h = entered-tells stepLine _ x q h
 
-    pub run-tells : (image : List ℕ) (a : Asked) {budget : ℕ} {e : Ran} → budget ≡ T.budgetOf (a .first) → running e s f b p v ≡ runEntered image budget t
+    pub run-tells : (image : List ℕ) (a : Asked) {budget : ℕ} {e : Ran} → budget ≡ budgetOf (a .first) → running e s f b p v ≡ runEntered image budget t
         → m ≡ afterRun e (registersOf t) → text w after ≡ line (ranLine e) before → left r after s f b p v ≡ leaving before (T.runDone image a t)
     unfolding T.runDone
     run-tells image a {budget} {e} k x q h =
@@ -282,11 +255,11 @@ module _ (n : ℕ) (a : Asked) (ts bs image bytes : List ℕ) (t : State) (befor
 
   -- ---- a line that was read, or was not
 
-  pub is-unread : {r : Turn} {u : Told} {w : Written} {after : List ℕ} → (a .bad ≡ 0 → ⊥) → text w after ≡ line (T.unreadLine (a .word)) before → u ≡ told (registersOf t) w → r ≡ turn u n
+  pub is-unread : {r : Turn} {u : Told} {w : Written} {after : List ℕ} → (a .bad ≡ 0 → ⊥) → text w after ≡ line (unreadLine (a .word)) before → u ≡ told (registersOf t) w → r ≡ turn u n
       → kept r after (t .memory .store) (t .memory .frames) (t .memory .bounds) (t .memory .pointers) (t .variables) image bytes
       ≡ keeping before (T.readOf n a ts bs image bytes t)
   unfolding T.readOf
-  is-unread z h d q = rw (ne-eqb (a .bad) 0 z) (keeps q image bytes (tells before d (T.unreadLine (a .word)) h))
+  is-unread z h d q = rw (ne-eqb (a .bad) 0 z) (keeps q image bytes (tells before d (unreadLine (a .word)) h))
 
   pub is-read : {x : Kept} → a .bad ≡ 0 → x ≡ keeping before (T.performedOf n a ts bs image bytes t) → x ≡ keeping before (T.readOf n a ts bs image bytes t)
   unfolding T.readOf
@@ -295,14 +268,14 @@ module _ (n : ℕ) (a : Asked) (ts bs image bytes : List ℕ) (t : State) (befor
 -- ---- a whole line
 
 module _ (n : ℕ) (l image bytes : List ℕ) (t : State) (before : List ℕ) where
-  pub is-long : {r : Turn} {u : Told} {w : Written} {after : List ℕ} → 262144 < length l → text w after ≡ line (T.unreadLine 0) before → u ≡ told (registersOf t) w → r ≡ turn u n
+  pub is-long : {r : Turn} {u : Told} {w : Written} {after : List ℕ} → 262144 < length l → text w after ≡ line (unreadLine 0) before → u ≡ told (registersOf t) w → r ≡ turn u n
       → kept r after (t .memory .store) (t .memory .frames) (t .memory .bounds) (t .memory .pointers) (t .variables) image bytes
       ≡ keeping before (T.answeredOf n l image bytes t)
   unfolding T.answeredOf
-  is-long z h d q = rw (lt-ltb 262144 (length l) z) (keeps q image bytes (tells before d (T.unreadLine 0) h))
+  is-long z h d q = rw (lt-ltb 262144 (length l) z) (keeps q image bytes (tells before d (unreadLine 0) h))
 
   pub is-line : {x : Kept} {a : Asked} {bytes′ ts bs : List ℕ} → length l ≤ 262144
-      → lineReads (registersOf t .depth) (words l) a bytes bytes′ T.zeros ts T.zeros bs
+      → lineReads (registersOf t .depth) (words l) a bytes bytes′ zeros ts zeros bs
       → x ≡ keeping before (T.readOf n a ts bs image bytes′ t) → x ≡ keeping before (T.answeredOf n l image bytes t)
   unfolding T.answeredOf
   is-line {a = a} {bytes′} {ts} {bs} z q h =

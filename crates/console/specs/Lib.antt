@@ -1,5 +1,1 @@
-pub mod Bounds
-pub mod Told
-pub mod Listed
 pub mod Turns
-pub mod Runs

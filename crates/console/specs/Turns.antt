@@ -1,14 +1,14 @@
 -- What each command of the console does: the machine, the image and the bytes afterwards, and the line that it is answered by.
-use Prim.Native.Nat.{ℕ, _+_, _-_, _%_, _^_, min}
+use Prim.Native.Nat.{ℕ, min}
 use mathlib.Core.Bool.{Bool, _&&_, _||_}
 use mathlib.Core.List.{List}
-use lib.ListN.{length, getD, take, drop, replicate}
+use lib.ListN.{length, take, replicate}
 use lib.Seq.{sets}
 use lib.Dec.{ltb, leb, eqb}
 use Rattle.value.specs.Answer.{pick}
 use Rattle.words.specs.Words.{words}
 use Rattle.words.specs.declared.Written.{Written}
-use Rattle.answers.specs.Lines.{Pieces, cannotReadLine, imageLine, okLine}
+use Rattle.answers.specs.Lines.{Pieces, imageLine, okLine}
 use Rattle.commands.specs.Command as Command
 use Rattle.commands.specs.Commands.{nameRead, rowAsked, rowBytes, rowTags, rowBits}
 use Rattle.commands.specs.declared.Asked.{Asked}
@@ -19,15 +19,13 @@ use Rattle.image_writer.specs.Answer.{outcome, buffer}
 use Rattle.memory.specs.declared.Registers.{Registers}
 use Rattle.memory.specs.declared.Outcome.{Outcome}
 use Rattle.memory.specs.Tables.{State, state, tables, Both, All, Out, freshOf}
-use Rattle.instruction.specs.declared.variables.Found.{Found}
-use Rattle.instruction.specs.Variables.{found}
 use Rattle.run.specs.Run.{Running}
 use Rattle.eval.specs.Entry.{Entering, Reading, runEntered, stepEntered, readEntered}
-use Rattle.eval.specs.Start.{startEntered}
 use Rattle.eval.specs.Host.{hostAllocated, hostWritten}
 use Rattle.eval.specs.After.{afterMoved, afterEntered, afterRun, afterGiven}
-use Rattle.console.specs.Told.{line, ranLine, startLine, stepLine, freshLine, givenLine, outcomeLine, readLine, rewrittenLine}
-use Rattle.console.specs.Listed.{liveLineOf}
+use Rattle.telling.specs.Told.{line, ranLine, startLine, stepLine, freshLine, givenLine, outcomeLine, readLine, rewrittenLine}
+use Rattle.telling.specs.Listed.{liveLineOf}
+use Rattle.telling.specs.Runs.{begunOf, budgetOf, unreadLine, zeros, longest}
 use Rattle.console.specs.declared.Told.{Told}
 use Rattle.console.specs.declared.Turn.{Turn}
 
@@ -53,22 +51,7 @@ registersOf t = t .memory .registers
 abbrev pub fromEntering : State → (tell : Pieces) → Entering → Done
 fromEntering t ps r = done (afterEntered (r .answer) (registersOf t)) (r .store) (r .frames) (r .bounds) (r .pointers) (r .variables) ps
 
--- how many values end a line, of those that the tables hold
-abbrev pub valueCount : (count : ℕ) → (tags bits : List ℕ) → ℕ
-valueCount n ts bs = min n (min (length ts) (length bs))
-
--- "the context, then up to 64 arguments"
-abbrev pub contextOf : (tags bits : List ℕ) → Found
-contextOf ts bs = found (getD ts 0 0) (getD bs 0 0)
-
-abbrev pub argumentsOf : (count : ℕ) → List ℕ → List ℕ
-argumentsOf n l = take (n - 1) (drop 1 l)
-
 -- "`start FUNCTION KIND BITS [KIND BITS]...` → `ok`"
-unfoldable pub begunOf : (image : List ℕ) → (function count : ℕ) → (tags bits : List ℕ) → State → Entering
-begunOf s f n ts bs t =
-    startEntered s f (contextOf ts bs) (argumentsOf (valueCount n ts bs) ts) (argumentsOf (valueCount n ts bs) bs) t
-
 unfoldable pub startDone : (image : List ℕ) → Asked → (tags bits : List ℕ) → State → Done
 startDone s a ts bs t = let r = begunOf s (a .first) (a .count) ts bs t in fromEntering t (startLine (r .answer)) r
 
@@ -79,9 +62,6 @@ stepDone s t = let r = stepEntered s t in fromEntering t (stepLine (r .answer)) 
 -- "`run BUDGET` → as `lir run`"
 abbrev pub fromRunning : State → Running → Done
 fromRunning t r = done (afterRun (r .answer) (registersOf t)) (r .store) (r .frames) (r .bounds) (r .pointers) (r .variables) (ranLine (r .answer))
-
-abbrev pub budgetOf : ℕ → ℕ
-budgetOf n = n % 2 ^ 32
 
 unfoldable pub runDone : (image : List ℕ) → Asked → State → Done
 runDone s a t = fromRunning t (runEntered s (budgetOf (a .first)) t)
@@ -155,12 +135,15 @@ lookedOf a s t =
 
 -- ---- one command
 
+-- `start`, `step` and `run`
 unfoldable pub runs : ℕ → Bool
 runs c = leb Command.start c && leb c Command.run
 
+-- `read`, and `live`, `rewrite` and `dump`
 unfoldable pub looks : ℕ → Bool
 looks c = eqb c Command.read || (leb Command.live c && leb c Command.dump)
 
+-- what a command does on the machine; those of other numbers change the memory
 unfoldable pub machineOf : Asked → (tags bits image bytes : List ℕ) → State → Done
 machineOf a ts bs s bytes t = pick (runs (a .command)) (ranOf s a ts bs t) (pick (looks (a .command)) (still t (lookedOf a s t)) (changedOf a bytes t))
 
@@ -188,17 +171,6 @@ performedOf n a ts bs image bytes t =
     (performed (machineOf a ts bs (take n image) bytes t) n image bytes)
 
 -- ---- one line
-
--- "What cannot be read .. is answered by one line .., `cannot read: word N` (counted from 1), nothing is done"; the word is counted as 64 bits hold it
-abbrev pub unreadLine : (word : ℕ) → Pieces
-unreadLine w = cannotReadLine ((w + 1) % 2 ^ 64)
-
-abbrev pub zeros : List ℕ
-zeros = replicate 65 0
-
--- "A line may be 262,144 bytes long; a longer one is one bad line."
-abbrev pub longest : ℕ
-longest = 262144
 
 -- what the line asks, with room for the context and 64 arguments
 abbrev pub lineAsked : (depth hexRoom : ℕ) → (line : List ℕ) → Asked

@@ -1,9 +1,5 @@
 // The commands that change the memory by the host's hand: `fresh`, `allocate`, `write` and the pokes.
 use crate::Told;
-use crate::answer::write_given;
-use crate::answer::write_moved;
-use crate::answer::write_outcome;
-use crate::bound::within;
 use crate::tell;
 use answers::line::write_ok;
 use by_hand::poke::poke;
@@ -15,6 +11,10 @@ use eval::host::host_allocate;
 use eval::host::host_write;
 use memory::Registers;
 use memory::fresh;
+use telling::answer::write_given;
+use telling::answer::write_moved;
+use telling::answer::write_outcome;
+use telling::bound::within;
 use words::Written;
 ghost use mathlib.Core.Path.{_≡_};
 ghost use Rattle.memory.specs.Tables.{tables, state};

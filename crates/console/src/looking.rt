@@ -1,20 +1,20 @@
 // The commands that look at the state and leave it as it is: `read`, `live`, `rewrite` and `dump`.
-use crate::answer::write_readout;
-use crate::answer::write_rewritten;
-use crate::bound::within;
-use crate::live::write_live;
 use by_hand::dump::write_dump;
 use commands::Asked;
 use commands::command;
 use eval::entry::host_read;
 use image_writer::writer::write_image;
 use memory::Registers;
+use telling::answer::write_readout;
+use telling::answer::write_rewritten;
+use telling::bound::within;
+use telling::live::write_live;
 use words::Written;
 ghost use mathlib.Core.Path.{_≡_};
 ghost use Rattle.words.specs.Text.{text};
 ghost use Rattle.memory.specs.Tables.{tables, state};
 ghost use Rattle.eval.specs.Entry.{readEntered};
-ghost use Rattle.console.specs.Told.{line};
+ghost use Rattle.telling.specs.Told.{line};
 ghost use Rattle.console.specs.Turns.{readingLine, readLineOf, rewrittenIn, rewriteLineOf, lookedOf};
 
 // As many bytes as the buffer holds, read through a pointer.

@@ -1,10 +1,5 @@
 // The commands that run the image: `start`, `step` and `run`.
 use crate::Told;
-use crate::answer::write_ran;
-use crate::answer::write_start;
-use crate::answer::write_step;
-use crate::begin::begin;
-use crate::begin::budget_of;
 use crate::tell;
 use commands::Asked;
 use commands::command;
@@ -13,6 +8,11 @@ use eval::after::after_run;
 use eval::entry::run;
 use eval::entry::step;
 use memory::Registers;
+use telling::answer::write_ran;
+use telling::answer::write_start;
+use telling::answer::write_step;
+use telling::begin::begin;
+use telling::begin::budget_of;
 ghost use mathlib.Core.Path.{_≡_};
 ghost use Rattle.memory.specs.Tables.{tables, state};
 ghost use Rattle.console.specs.Turns.{left, leaving, startDone, stepDone, runDone, ranOf};

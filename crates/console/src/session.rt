@@ -1,19 +1,19 @@
 // One line of the console, on the machine and the image of a session.
-use crate::LONGEST;
 use crate::Told;
 use crate::Turn;
-use crate::bound::least;
-use crate::bound::within;
 use crate::changing::change;
 use crate::looking::look;
 use crate::running::perform_running;
-use crate::start_line::write_unread;
 use crate::tell;
 use answers::line::write_image_taken;
 use commands::Asked;
 use commands::command;
 use commands::command::read_line;
 use memory::Registers;
+use telling::LONGEST;
+use telling::bound::least;
+use telling::bound::within;
+use telling::start_line::write_unread;
 use words::Written;
 use words::text::write_bytes;
 ghost use mathlib.Core.Path.{_≡_};

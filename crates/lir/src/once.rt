@@ -5,11 +5,11 @@ use crate::file::read_first_line;
 use crate::file::read_image;
 use crate::say;
 use answers::line::write_image_refused;
-use console::answer::write_loaded;
-use console::start_line::answer_start;
 use loader::load::load;
 use reader::Headed;
 use reader::read_header;
+use telling::answer::write_loaded;
+use telling::start_line::answer_start;
 use words::Written;
 
 fn print_answer(image: &[u8], line: &[u8]) {

@@ -1,0 +1,4 @@
+pub mod Telling
+pub mod Listing
+pub mod Starting
+pub mod Again
