@@ -1,6 +1,7 @@
 pub mod Laws
 pub mod Rooms
 pub mod Undo
+pub mod Sure
 pub mod Sets
 pub mod Enters
 pub mod Starts

@@ -1,6 +1,8 @@
 -- What a Call does to the variables as they are lent. Each part answers the table after it, or refuses, and then nothing has changed.
 use Prim.Native.Nat.{ℕ, zero, suc, _+_, _-_, _*_, _/_}
+use mathlib.Core.Bool.{Bool, true, false}
 use mathlib.Core.List.{List}
+use mathlib.Core.Path.{_≡_}
 use lib.ListN.{length, getD}
 use lib.Dec.{ltb, eqb}
 use Rattle.value.specs.Answer.{Answer, ok, refused, pick, _>>=_}
@@ -64,6 +66,19 @@ contextOn s call f vars = contextSet s call f vars >>= λ vs. argumentsSet s (f 
 -- the return pointer, then the context and the arguments
 unfoldable pub pointerOn : (image : List ℕ) → CallFields → Callee → List ℕ → Answer (List ℕ)
 pointerOn s call f vars = pointerSet call f vars >>= λ vs. contextOn s call f vs
+
+-- whether n operands all have values
+unfoldable pub allFound : (image : List ℕ) → (n at : ℕ) → List ℕ → Bool
+allFound s zero at vars = true
+allFound s (suc n) at vars =
+    let from = operandAt s at in
+    pick (eqb (evaluated vars from .tag) 0) false (allFound s n (from .next) vars)
+
+-- all that a Call hands over has a value, so that none of it is refused
+pub record Sure (image : List ℕ) (call : CallFields) (vars : List ℕ) : Type 0 where
+  pub pointer : (call .pointer ≡ 0 → ⊥) → readVariable vars (call .pointer - 1) .tag ≡ 0 → ⊥
+  pub context : (call .context ≡ 0 → ⊥) → evaluated vars (operandAt image (call .context)) .tag ≡ 0 → ⊥
+  pub arguments : allFound image (call .given) (call .arguments) vars ≡ true
 
 -- the callee's slots, the first of which has pointer g, then the return pointer, the context and the arguments
 unfoldable pub slotsOn : (image : List ℕ) → CallFields → Callee → (n at g : ℕ) → List ℕ → Answer (List ℕ)

@@ -4,14 +4,13 @@ ghost use Prim.Native.Nat.{_+_, _<_};
 ghost use lib.ListN.{drop};
 ghost use Rattle.memory.specs.Tables.{tables};
 ghost use Rattle.instruction.specs.Code.{stepped};
-ghost use Rattle.calls.specs.Variables.{slotsPointed};
 ghost use Rattle.calls.specs.Begin.{valuesSet, startedSet, variablesSet, ranAt, begunIn, begunOf};
 use crate::call::make_slots;
 use crate::fields::Callee;
 use crate::fields::entry_place;
 use crate::fields::place_in;
 use crate::fields::read_callee;
-use crate::fields::read_slot;
+use crate::handing::point_slots;
 use crate::room::room_in;
 use instruction::field::read_field;
 use instruction::step::Progress;
@@ -21,7 +20,6 @@ use memory::Moved;
 use memory::Place;
 use memory::Registers;
 use memory::clear_words;
-use value::IrType;
 
 // The parameters are set to the host's values from `first` on, as far as there are both.
 pub fn set_values(
@@ -82,30 +80,6 @@ pub fn set_started(image: &[u8], callee: Callee, tags: &[u64], bits: &[u64], var
         },
     );
     set_values(image, callee, tags, bits, 1, vars);
-}
-
-// The variables of the slots take the pointers from number `first` on.
-fn point_slots(image: &[u8], callee: Callee, first: usize, vars: &mut [u64])
-    requires { ⌜ first + callee .count < 18446744073709551616 ⌝ }
-    ensures { λ r. ⌜ now (vars .exit) ≡ slotsPointed (now (image .entry)) (callee .count) (callee .slots) first (now (vars .entry)) ⌝ }
-{
-    let mut at = callee.slots;
-    let mut left = callee.count;
-    let mut number = first;
-    while 0 < left {
-        let slot = read_slot(image, at);
-        set_variable(
-            vars,
-            slot.variable as usize,
-            Found {
-                tag: IrType::POINTER_TAG,
-                bits: number as u64,
-            },
-        );
-        at = slot.next;
-        left -= 1;
-        number += 1;
-    }
 }
 
 // All variables: cleared, then the context, the return pointer, the parameters and the slots, later ones winning.

@@ -1,10 +1,8 @@
 // Call: 35, 36, the callee's slots, the return pointer, the context, the arguments. All is tested before a table of the memory is
 // changed, and a refusal leaves every element as it stood.
 ghost use mathlib.Core.Path.{_≡_};
-ghost use Prim.Native.Nat.{_+_, _<_};
-ghost use Rattle.memory.specs.Tables.{tables, both};
+ghost use Rattle.memory.specs.Tables.{tables};
 ghost use Rattle.instruction.specs.Code.{stepped};
-ghost use Rattle.calls.specs.Variables.{allOrNothing, slotsOn};
 ghost use Rattle.calls.specs.Code.{entered, slotsMadeOf, enteredOf, arrived, calledIn, calledOf};
 use crate::fields::CallFields;
 use crate::fields::Callee;
@@ -13,13 +11,9 @@ use crate::fields::place_in;
 use crate::fields::read_call;
 use crate::fields::read_callee;
 use crate::fields::read_slot;
+use crate::handing::set_all;
 use crate::room::call_room;
-use crate::variables::held;
-use crate::variables::set_pointer;
-use crate::variables::undo;
 use instruction::step::Progress;
-use instruction::variables::Found;
-use instruction::variables::set_variable;
 use memory::Given;
 use memory::Moved;
 use memory::Outcome;
@@ -27,39 +21,7 @@ use memory::Place;
 use memory::Registers;
 use memory::allocate;
 use memory::push_frame;
-use value::IrType;
 use value::refusal::NO_INSTRUCTION;
-
-// The variables of `left` slots take the pointers from `number` on; then the return pointer, the context and the arguments.
-fn set_slots(
-    image: &[u8],
-    call: CallFields,
-    callee: Callee,
-    at: usize,
-    left: u64,
-    number: usize,
-    vars: &mut [u64],
-) -> Outcome
-    requires { ⌜ number + left < 18446744073709551616 ⌝ }
-    ensures { λ r. ⌜ both r (now (vars .exit)) ≡ allOrNothing (now (vars .entry)) (slotsOn (now (image .entry)) call callee left at number (now (vars .entry))) ⌝ }
-{
-    if left == 0 {
-        return set_pointer(image, call, callee, vars);
-    }
-    let slot = read_slot(image, at);
-    let x = slot.variable as usize;
-    let old = held(vars, x);
-    set_variable(
-        vars,
-        x,
-        Found {
-            tag: IrType::POINTER_TAG,
-            bits: number as u64,
-        },
-    );
-    let rest = set_slots(image, call, callee, slot.next, left - 1, number + 1, vars);
-    undo(vars, x, old, rest)
-}
 
 // The slots, zero-filled, in order.
 pub fn make_slots(
@@ -152,9 +114,7 @@ pub fn call_in(
     if no != 0 {
         return Progress::Refused(no);
     }
-    let first = callee.slots;
-    let count = callee.count;
-    match set_slots(image, fields, callee, first, count, m.pointers, vars) {
+    match set_all(image, fields, callee, m.pointers, vars) {
         Outcome::Done => arrive(
             place,
             enter(m, image, fields.to, callee, store, frames, bounds, pointers),

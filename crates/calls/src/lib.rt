@@ -2,5 +2,6 @@
 pub mod begin;
 pub mod call;
 pub mod fields;
+pub mod handing;
 pub mod room;
 pub mod variables;

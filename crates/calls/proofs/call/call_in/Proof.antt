@@ -5,6 +5,7 @@ use borrow.Author.Tests.{ne-eqb}
 use Rattle.calls.specs.Code.{calledIn}
 use Rattle.calls.proofs.Rooms.{call-room-given}
 use Rattle.calls.proofs.Enters.{call-on, call-stop}
+use Rattle.calls.proofs.Sure.{all-room}
 use borrow.Author.Needs.{needs}
 use Rattle.calls.proofs.call.call_in.Statement.{statement}
 use Rattle.calls.proofs.call.call_in.Tie as tie
@@ -22,8 +23,8 @@ returns : tie.Need-returns
 unfolding calledIn
 returns c = simp (← c .before .call-room .ensures, ne-eqb _ _ (c .if1 .taken))
 
-set-slots-requires : tie.Need-set-slots-requires
-set-slots-requires c κs = let h = call-room-given _ _ _ _ _ _ _ (sym (c .before .before .call-room .ensures) ∙ c .before .if1 .left) in omega arith
+set-all-requires : tie.Need-set-all-requires
+set-all-requires c κs = search needs
 
 enum-told : tie.Need-enum-told
 enum-told c = search needs
@@ -53,7 +54,7 @@ same-length-7 : tie.Need-same-length-7
 same-length-7 c = search needs
 
 returns-2 : tie.Need-returns-2
-returns-2 c = call-on _ _ _ _ _ _ (sym (c .before .before .before .before .before .before .before .before .before .before .before .before .before .before .before .before .before .before .before .before .before .call-room .ensures) ∙ c .before .before .before .before .before .before .before .before .before .before .before .before .before .before .before .before .before .before .before .before .if1 .left) _ _ (c .before .before .before .before .before .before .before .before .before .before .before .before .before .before .before .before .before .before .set-slots .ensures) _ _ (c .before .before .before .before .before .before .before .before .before .before .before .before .before .before .enum-told .given .1) (c .before .before .before .before .before .before .before .before .before .enter .ensures) (c .arrive .ensures)
+returns-2 c = call-on _ _ _ _ _ _ (sym (c .before .before .before .before .before .before .before .before .before .before .before .before .before .before .before .before .before .before .before .before .before .call-room .ensures) ∙ c .before .before .before .before .before .before .before .before .before .before .before .before .before .before .before .before .before .before .before .before .if1 .left) _ _ (c .before .before .before .before .before .before .before .before .before .before .before .before .before .before .before .before .before .before .set-all .ensures ∙ all-room _ _ _ _ (call-room-given _ _ _ _ _ _ _ (sym (c .before .before .before .before .before .before .before .before .before .before .before .before .before .before .before .before .before .before .before .before .before .call-room .ensures) ∙ c .before .before .before .before .before .before .before .before .before .before .before .before .before .before .before .before .before .before .before .before .if1 .left))) _ _ (c .before .before .before .before .before .before .before .before .before .before .before .before .before .before .enum-told .given .1) (c .before .before .before .before .before .before .before .before .before .enter .ensures) (c .arrive .ensures)
 
 same-length-8 : tie.Need-same-length-8
 same-length-8 c = search needs
@@ -65,7 +66,7 @@ same-length-10 : tie.Need-same-length-10
 same-length-10 c = search needs
 
 returns-3 : tie.Need-returns-3
-returns-3 c = call-stop _ _ _ _ _ _ (sym (c .before .before .before .before .before .before .before .before .call-room .ensures) ∙ c .before .before .before .before .before .before .before .if1 .left) _ _ (c .before .before .before .before .before .set-slots .ensures) _ (c .before .n .given .1)
+returns-3 c = call-stop _ _ _ _ _ _ (sym (c .before .before .before .before .before .before .before .before .call-room .ensures) ∙ c .before .before .before .before .before .before .before .if1 .left) _ _ (c .before .before .before .before .before .set-all .ensures ∙ all-room _ _ _ _ (call-room-given _ _ _ _ _ _ _ (sym (c .before .before .before .before .before .before .before .before .call-room .ensures) ∙ c .before .before .before .before .before .before .before .if1 .left))) _ (c .before .n .given .1)
 
 pub call-in-spec : {M : Type 1} → statement M
 call-in-spec =
@@ -75,7 +76,7 @@ call-in-spec =
     same-length
     same-length-2
     returns
-    set-slots-requires
+    set-all-requires
     enum-told
     enter-requires
     arrive-requires

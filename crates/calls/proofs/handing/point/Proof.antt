@@ -1,4 +1,4 @@
--- `begin::point_slots` meets its contract. The loop's invariant: what is left of the slots makes what all of them make. The measure is how many are left.
+-- `handing::point` meets its contract. The loop's invariant: what is left of the slots makes what all of them make. The measure is how many are left.
 use native.Mathlib.Omega.{arith}
 use borrow.Author.Needs.{needs}
 use Prim.Native.Nat.{_+_}
@@ -6,8 +6,8 @@ use mathlib.Core.Path.{_≡_, refl, sym, _∙_}
 use lib.ListN.{length}
 use Rattle.calls.specs.Variables.{slotsPointed}
 use Rattle.calls.proofs.Sets.{pointed-on, pointed-none}
-use Rattle.calls.proofs.begin.point_slots.Statement.{statement}
-use Rattle.calls.proofs.begin.point_slots.Tie as tie
+use Rattle.calls.proofs.handing.point.Statement.{statement}
+use Rattle.calls.proofs.handing.point.Tie as tie
 
 abbrev Inv-loop : tie.InvT-loop
 Inv-loop image first vars₀ at₀ left₀ number₀ vars at left number = (slotsPointed image left at number vars ≡ slotsPointed image left₀ at₀ first vars₀) × (number + left ≡ first + left₀) × (length vars ≡ length vars₀)
@@ -42,8 +42,8 @@ same-length c = search needs
 returns : tie.Need-returns Inv-loop μ-loop
 returns c = sym (pointed-none _ _ _ _ _ (omega arith)) ∙ c .before .loop .inv .0
 
-pub point-slots-spec : {M : Type 1} → statement M
-point-slots-spec =
+pub point-spec : {M : Type 1} → statement M
+point-spec =
     tie.close
     (tie.spec
     Inv-loop

@@ -1,4 +1,4 @@
--- `call::set_slots` meets its contract: where the rest is refused, the old words put back are the table as it stood. The measure is how many slots are left.
+-- `handing::set_slots` meets its contract: where the rest is refused, the old words put back are the table as it stood. The measure is how many slots are left.
 use native.Mathlib.Omega.{arith}
 use mathlib.Core.Path.{ap, _∙_}
 use borrow.Author.Needs.{needs}
@@ -8,16 +8,16 @@ use Rattle.calls.proofs.Undo.{undone}
 use Prim.Native.Nat.{ℕ, _<_}
 use borrow.Fn.Kinds.{In}
 use borrow.Fn.PlainCycle.{Measures, is, falls, and}
-use Rattle.calls.proofs.call.set_slots.Reads as set-slots
-use Rattle.calls.proofs.call.set_slots.Kinds as set-slots-kinds
-use Rattle.calls.proofs.call.+set_slots.Lts-set_slots as set-slots-lts
+use Rattle.calls.proofs.handing.set_slots.Reads as set-slots
+use Rattle.calls.proofs.handing.set_slots.Kinds as set-slots-kinds
+use Rattle.calls.proofs.handing.+set_slots.Lts-set_slots as set-slots-lts
 use Rattle.calls.proofs.fields.read_slot.Reads as read-slot-reads
 use Rattle.calls.proofs.variables.held.Reads as held-reads
 use Rattle.calls.proofs.variables.set_pointer.Reads as set-pointer-reads
 use Rattle.calls.proofs.variables.undo.Reads as undo-reads
 use Rattle.instruction.proofs.variables.set_variable.Reads as set-variable-reads
-use Rattle.calls.proofs.call.+set_slots.{statement}
-use Rattle.calls.proofs.call.+set_slots.Tie.{close}
+use Rattle.calls.proofs.handing.+set_slots.{statement}
+use Rattle.calls.proofs.handing.+set_slots.Tie.{close}
 
 abbrev μ : Measures 2 set-slots-kinds.ps ℕ
 μ κs a = a .1 .1 .1 .1 .0
