@@ -16,7 +16,6 @@ use words::Written;
 use words::text::write_bytes;
 ghost use mathlib.Core.Path.{_≡_};
 ghost use Prim.Native.Nat.{_-_, _<_, _≤_, min};
-ghost use lib.ListN.{length};
 ghost use Rattle.words.specs.Text.{text, puts};
 ghost use Rattle.by_hand.specs.State.{varOf, lengthsOf, frameAt, framesText, pointerAt, each, pointersText, variableAt, noneSet, variablesText, liveBytes, dumpLine};
 

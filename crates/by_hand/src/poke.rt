@@ -10,7 +10,7 @@ use memory::MAX_POINTERS;
 use memory::PointerRecord;
 use memory::Registers;
 ghost use mathlib.Core.Path.{_≡_};
-ghost use Prim.Native.Nat.{_-_, _<_, _≤_, min};
+ghost use Prim.Native.Nat.{_-_, _<_, min};
 ghost use Rattle.memory.specs.Tables.{pointer, withPointers};
 ghost use Rattle.by_hand.specs.Changes.{variablePut, framePut, wordPut, pointerPut, constantsPut, withDepth, registerPut, poked, pokedOf};
 ghost use Rattle.by_hand.specs.Changes.{more as Changes·more};

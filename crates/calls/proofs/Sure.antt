@@ -8,8 +8,8 @@ use mathlib.Core.List.{List}
 use lib.ListN.{length, getD, set, length-set}
 use lib.Seq.{getD-set-same, getD-set-other}
 use lib.Dec.{ltb, eqb}
-use borrow.Author.Tests.{lt-ltb, le-ltb, ltb-true, ltb-false, eq-eqb, ne-eqb, eqb-true, eqb-false}
-use Rattle.value.specs.Answer.{Answer, ok, refused, pick, _>>=_}
+use borrow.Author.Tests.{lt-ltb, le-ltb, ltb-true, eq-eqb, ne-eqb, eqb-true, eqb-false}
+use Rattle.value.specs.Answer.{ok, pick, _>>=_}
 use Rattle.value.specs.Value.{tag}
 use Rattle.memory.specs.Tables.{both}
 use Rattle.memory.specs.declared.Outcome.the-variants as outcome

@@ -1,7 +1,6 @@
 // Room for a frame and for slots: 0, or the refusal. Nothing is changed.
 ghost use mathlib.Core.Path.{_≡_};
 ghost use Rattle.calls.specs.Room.{frameRoomOf, slotRoomOf, slotsRoomOf, roomInOf, callRoomOf};
-ghost use Rattle.memory.specs.Tables.{tables};
 use crate::fields::Callee;
 use crate::fields::read_slot;
 use memory::MAX_ALLOCATIONS;

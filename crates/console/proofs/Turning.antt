@@ -2,12 +2,12 @@
 use Prim.Native.Nat.{ℕ, _+_, _<_, _≤_, min}
 use native.Mathlib.Nat.{min-le-right}
 use native.Mathlib.Omega.{arith}
-use mathlib.Core.Bool.{Bool, true, false}
-use mathlib.Core.Path.{_≡_, refl, sym, ap, ap₂, _∙_}
+use mathlib.Core.Bool.{false}
+use mathlib.Core.Path.{_≡_, ap, ap₂, _∙_}
 use mathlib.Core.List.{List}
 use lib.ListN.{length, take, replicate, length-take}
 use lib.Seq.{sets}
-use lib.Dec.{leb, eqb}
+use lib.Dec.{eqb}
 use borrow.Author.Tests.{eq-eqb, ne-eqb, lt-ltb, le-ltb, le-leb, lt-leb}
 use Rattle.words.specs.Text.{Text, text, put}
 use Rattle.words.specs.Words.{words}
@@ -21,7 +21,7 @@ use Rattle.memory.specs.declared.Registers.{Registers}
 use Rattle.memory.specs.declared.Moved.{Moved}
 use Rattle.memory.specs.declared.Given.{Given}
 use Rattle.memory.specs.declared.Outcome.{Outcome}
-use Rattle.memory.specs.Tables.{State, state, tables, Both, both, All, all, Out, out, freshOf}
+use Rattle.memory.specs.Tables.{State, Both, both, All, all, Out, out, freshOf}
 use Rattle.run.specs.Run.{Running, running}
 use Rattle.eval.specs.Entry.{Entering, entering, Reading, readOut, runEntered, stepEntered, readEntered}
 use Rattle.eval.specs.declared.entry.Readout.{Readout}

@@ -3,7 +3,7 @@ use Prim.Native.Nat.{ℕ}
 use native.Mathlib.Omega.{arith}
 use mathlib.Core.Bool.{Bool, true, false, _&&_}
 use mathlib.Core.List.{List}
-use mathlib.Core.Path.{_≡_, refl, sym, ap, _∙_}
+use mathlib.Core.Path.{_≡_, refl, ap, _∙_}
 use lib.ListN.{length}
 use lib.Dec.{eqb}
 use borrow.Author.Tests.{eq-eqb, ne-eqb}
@@ -16,7 +16,7 @@ use Rattle.memory.specs.declared.Registers.{Registers}
 use Rattle.memory.specs.declared.Moved.{Moved}
 use Rattle.memory.specs.declared.Given.{Given}
 use Rattle.memory.specs.declared.Outcome.{Outcome}
-use Rattle.memory.specs.Tables.{state, tables, Both, both, all, out, Listing, listing, freshOf}
+use Rattle.memory.specs.Tables.{state, tables, both, all, out, listing, freshOf}
 use Rattle.instruction.specs.declared.variables.Found.{Found}
 use Rattle.run.specs.Run.{running}
 use Rattle.eval.specs.Entry.{entering, readOut, runEntered, stepEntered, readEntered}
@@ -28,7 +28,7 @@ use Rattle.eval.specs.declared.entry.Readout.{Readout}
 use Rattle.replies.specs.declared.words.Reply.{Reply}
 use Rattle.replies.specs.Words.{registersIn, wordsOf, replyWords, registersPut, replyPut, shapedOf, replyMoved, replyEntered, replyRun, replyGiven, replyRead, replyWritten, numberOf}
 use Rattle.eval.specs.After.{afterMoved, afterEntered, afterRun, afterGiven}
-use Rattle.embed.specs.Called.{Lent, lent, Gave, gave, registersOf, stateOf, ifShaped, giving, freshGave, freshCalled, enteredGave, startCalled, stepCalled, ranGave, runCalled, madeGave, allocateCalled, numbered, writeCalled, Filled, filled, filling, readGave, readCalled, imageCalled, Listed, listed, listGave, listCalled}
+use Rattle.embed.specs.Called.{Lent, lent, Gave, gave, registersOf, ifShaped, giving, freshGave, freshCalled, enteredGave, startCalled, stepCalled, ranGave, runCalled, madeGave, allocateCalled, numbered, writeCalled, filled, readGave, readCalled, imageCalled, listed, listGave, listCalled}
 
 -- ---- lengths
 

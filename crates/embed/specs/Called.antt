@@ -1,6 +1,5 @@
 -- What a call of each C function gives: the number it answers, and every word and byte that was lent to it.
 use Prim.Native.Nat.{ℕ}
-use mathlib.Core.Bool.{Bool}
 use mathlib.Core.List.{List}
 use lib.ListN.{length}
 use lib.Dec.{eqb}

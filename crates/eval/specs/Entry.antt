@@ -1,6 +1,5 @@
 -- What the entries that take an image make of it, of registers and of tables. "Order: image, 10, 11 or 12, 13, 14, 15, then room".
-use Prim.Native.Nat.{ℕ, _*_, _≤_}
-use mathlib.Core.Path.{_≡_}
+use Prim.Native.Nat.{ℕ, _≤_}
 use mathlib.Core.List.{List}
 use lib.ListN.{length}
 use lib.Dec.{eqb}
@@ -10,10 +9,9 @@ use Rattle.image.specs.declared.field.Step.{Step}
 use Rattle.image.specs.declared.field.Step.the-variants as step
 use Rattle.loader.specs.Tables.{loadedFrom}
 use Rattle.loader.specs.declared.load.Loaded.{Loaded}
-use Rattle.memory.specs.declared.Registers.{Registers}
 use Rattle.memory.specs.declared.Outcome.{Outcome}
 use Rattle.memory.specs.declared.Outcome.the-variants as outcome
-use Rattle.memory.specs.Tables.{State, Both, both, soundOf, readOf}
+use Rattle.memory.specs.Tables.{State, Both, soundOf, readOf}
 use Rattle.instruction.specs.Code.{Stepped}
 use Rattle.instruction.specs.declared.step.Progress.{Progress}
 use Rattle.instruction.specs.declared.step.Progress.the-variants as progress

@@ -8,9 +8,9 @@ use lib.ListN.{length, getD}
 use lib.Dec.{ltb, eqb}
 use borrow.Author.Tests.{lt-leb, lt-ltb, ltb-true, ltb-false, ne-eqb, eqb-true, eqb-false}
 use Rattle.value.specs.Answer.{pick}
-use Rattle.image.specs.Parse.{Got, took, refused}
+use Rattle.image.specs.Parse.{took}
 use Rattle.image.specs.Number.{number, groups}
-use Rattle.instruction.specs.Decode.{field, fieldOf, fieldAt}
+use Rattle.instruction.specs.Decode.{field, fieldAt}
 use Rattle.instruction.specs.Code.{branchOf}
 use Rattle.instruction.specs.Short.{Pairs, First}
 use Rattle.instruction.proofs.Laws.{branch-hit, branch-on, branch-none}

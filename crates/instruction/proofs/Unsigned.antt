@@ -1,12 +1,12 @@
 -- Unsigned integers of one kind are added, subtracted and compared by their bits: kind by kind, where the definitions compute.
-use Prim.Native.Nat.{ℕ, _+_, _-_, _≤_, _<_}
+use Prim.Native.Nat.{ℕ, _+_, _-_, _≤_}
 use native.Mathlib.Omega.{arith}
 use mathlib.Core.Bool.{Bool, true, false}
 use mathlib.Core.Path.{_≡_, refl, sym, ap, _∙_}
 use lib.Dec.{ltb, leb, eqb}
 use lib.IntN.{ℤ, pos, _-ℤ_, pos-+ℤ-pos, +ℤ-negℤ-cancel}
 use borrow.Author.Tests.{lt-ltb, le-ltb, le-leb, lt-leb, ltb-true, ltb-false, eqb-true, eqb-false}
-use Rattle.value.specs.Answer.{Answer, ok, refused, need, pick, _>>=_}
+use Rattle.value.specs.Answer.{ok, need, pick, _>>=_}
 use Rattle.value.specs.Value.{Value, value, Kind, tag, size, family, arithmetic, operate, checked, integer, bitsOf, compareInts, unsignedOrder, naturals, passes, truth, Test, lt, le, gt, ge, less, equal, greater}
 use Rattle.value.specs.Value as Kinds
 use Rattle.value.specs.Tags.{kindAt, named, holds, intCmpAt}

@@ -12,7 +12,6 @@ use crate::compute::unary;
 use crate::field::Field;
 use crate::field::read_field;
 use crate::field::read_operand;
-use crate::field::wide;
 use crate::variables::Found;
 use crate::variables::evaluate;
 use crate::variables::set_variable;

@@ -2,7 +2,7 @@
 use Prim.Native.Nat.{ℕ, zero, suc, _+_, _-_, _<_}
 use native.Mathlib.Numerals.{sub-one}
 use native.Mathlib.Omega.{arith}
-use mathlib.Core.Path.{_≡_, refl, sym, ap, _∙_}
+use mathlib.Core.Path.{_≡_, refl, sym, ap}
 use mathlib.Core.List.{List}
 use Rattle.memory.specs.declared.Registers.{Registers}
 use Rattle.memory.specs.Tables.{State, state, tables}
@@ -12,7 +12,7 @@ use Rattle.instruction.specs.declared.step.Progress.{Progress}
 use Rattle.instruction.specs.declared.step.Progress.the-variants.{Next, Ended, Refused}
 use Rattle.step.specs.Items.{Items}
 use Rattle.step.specs.Step.{steppedOf}
-use Rattle.run.specs.Run.{Running, running, resting, after, ranOf}
+use Rattle.run.specs.Run.{running, resting, after, ranOf}
 use Rattle.run.specs.declared.Ran.the-variants as ran
 
 module _ (i : Items) (t : State) (done : ℕ) (store frames bounds pointers vars : List ℕ) where

@@ -1,6 +1,6 @@
 // Steps within a budget, over an image that was loaded.
 ghost use mathlib.Core.Path.{_≡_};
-ghost use Prim.Native.Nat.{_+_, _-_, _≤_};
+ghost use Prim.Native.Nat.{_+_, _-_};
 ghost use Rattle.memory.specs.Tables.{tables, state};
 ghost use Rattle.step.specs.Items.{items};
 ghost use Rattle.run.specs.Run.{running, ranOf};

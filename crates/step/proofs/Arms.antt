@@ -1,16 +1,16 @@
 -- The arms of the dispatcher: at each opcode the definition is that of its instruction.
 use Prim.Native.Nat.{ℕ, _+_, _≤_, _<_}
 use native.Mathlib.Omega.{arith}
-use mathlib.Core.Path.{_≡_, refl, sym, ap, _∙_}
+use mathlib.Core.Path.{_≡_, refl, ap}
 use mathlib.Core.List.{List}
 use lib.ListN.{length, getD}
-use borrow.Author.Tests.{eq-eqb, ne-eqb, le-leb, lt-leb}
+use borrow.Author.Tests.{ne-eqb, le-leb, lt-leb}
 use Rattle.value.specs.Refusal.{noInstruction}
-use Rattle.memory.specs.Tables.{State, Both, both}
+use Rattle.memory.specs.Tables.{State, both}
 use Rattle.memory.specs.declared.Registers.{Registers}
 use Rattle.instruction.specs.Decode.{fieldAt}
-use Rattle.instruction.specs.Code.{Stepped, stepped, jumpedOf, switchedOf, assignedOf, combinedOf, changedOf}
-use Rattle.instruction.specs.Storage.{Pointed, pointed, addressedOf, offsettedOf, returnedOf, writeOf, readingOf, initializedOf, copyingOf}
+use Rattle.instruction.specs.Code.{Stepped, jumpedOf, switchedOf, assignedOf, combinedOf, changedOf}
+use Rattle.instruction.specs.Storage.{pointed, addressedOf, offsettedOf, returnedOf, writeOf, readingOf, initializedOf, copyingOf}
 use Rattle.instruction.specs.declared.field.Field.{Field}
 use Rattle.instruction.specs.declared.step.Progress.{Progress}
 use Rattle.instruction.specs.declared.step.Progress.the-variants.{Next, Refused}

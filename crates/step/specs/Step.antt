@@ -1,6 +1,5 @@
 -- What one step of the code makes of registers and tables: the instruction at the next place, by its opcode.
 use Prim.Native.Nat.{ℕ, _+_}
-use mathlib.Core.List.{List}
 use lib.ListN.{length, getD}
 use lib.Dec.{leb, eqb}
 use Rattle.value.specs.Answer.{pick}

@@ -1,12 +1,12 @@
 -- The live list: a pointer's record from the four columns, and the list by what the memory answered.
 use Prim.Native.Nat.{ℕ, min}
-use mathlib.Core.Path.{_≡_, refl, sym, ap, ap₂, _∙_}
-use mathlib.Core.List.{List, _∷_, []}
+use mathlib.Core.Path.{_≡_, sym, ap, ap₂, _∙_}
+use mathlib.Core.List.{List, []}
 use lib.ListN.{length, getD, take}
 use Rattle.words.specs.Ascii.{ascii}
 use Rattle.words.specs.Text.{Text, text, put, puts}
 use Rattle.words.specs.declared.Written.the-variants.{To}
-use Rattle.answers.specs.Lines.{Pieces, ending, labelled, liveRecord}
+use Rattle.answers.specs.Lines.{ending, labelled, liveRecord}
 use Rattle.answers.proofs.Parts.{puts-append}
 use Rattle.by_hand.specs.State.{each}
 use Rattle.memory.specs.declared.Outcome.{Outcome}

@@ -3,7 +3,7 @@ use Prim.Native.Nat.{ℕ, _+_, _-_, _%_, _^_, _<_, _≤_, min}
 use native.Mathlib.Nat.{min-eq-left, min-eq-right}
 use native.Mathlib.Decide.{decLe}
 use native.Mathlib.Omega.{arith}
-use mathlib.Core.Path.{_≡_, refl, sym, ap, ap₂, _∙_}
+use mathlib.Core.Path.{_≡_, sym, ap, ap₂, _∙_}
 use mathlib.Core.List.{List}
 use lib.ListN.{length, getD, take, drop}
 use borrow.Author.Tests.{eq-eqb, ne-eqb, lt-ltb, le-ltb}
@@ -25,7 +25,7 @@ use Rattle.run.specs.declared.Ran.{Ran}
 use Rattle.run.specs.declared.Ran.the-variants as ran
 use Rattle.eval.specs.declared.entry.Entered.{Entered}
 use Rattle.telling.specs.Told.{line, ranLine}
-use Rattle.telling.specs.Runs.{valueCount, argumentsOf, begunOf, budgetOf, unreadLine, zeros, runFrom, runAfter, begunRun, madeRun, madeFrom, freshRun, Answer, answer, fromRun, startAsked, startTags, startBits, startAnswered, Answered, answered, answering}
+use Rattle.telling.specs.Runs.{valueCount, argumentsOf, begunOf, budgetOf, unreadLine, zeros, runFrom, runAfter, begunRun, madeRun, madeFrom, freshRun, answer, fromRun, startAsked, startAnswered, answered, answering}
 
 -- ---- a start's values
 

@@ -10,7 +10,6 @@ use Rattle.answers.specs.Lines.{Pieces, cannotReadLine}
 use Rattle.commands.specs.Parts.{good}
 use Rattle.commands.specs.Commands.{startLine, rowAsked, rowTags, rowBits}
 use Rattle.commands.specs.declared.Asked.{Asked}
-use Rattle.memory.specs.declared.Registers.{Registers}
 use Rattle.memory.specs.declared.Moved.{Moved}
 use Rattle.memory.specs.declared.Moved.the-variants as moved
 use Rattle.memory.specs.Tables.{State, state, tables, All, freshOf}

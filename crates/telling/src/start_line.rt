@@ -14,9 +14,8 @@ use run::Ran;
 use words::Written;
 ghost use mathlib.Core.Path.{_≡_};
 ghost use Rattle.memory.specs.Tables.{tables, state};
-ghost use Rattle.eval.specs.Entry.{entering};
 ghost use Rattle.run.specs.Run.{running};
-ghost use Rattle.telling.specs.Runs.{unreadLine, runFrom, begunRun, freshRun, Answered, answered, answering, startAnswered};
+ghost use Rattle.telling.specs.Runs.{unreadLine, runFrom, begunRun, freshRun, answered, answering, startAnswered};
 ghost use Rattle.words.specs.Text.{text};
 ghost use Rattle.telling.specs.Told.{line};
 

@@ -1,8 +1,8 @@
 -- `run::run_steps` meets its contract: what is left of the run at the loop's state gives what the whole run gives.
-use Prim.Native.Nat.{_+_, _-_, _≤_}
+use Prim.Native.Nat.{_-_, _≤_}
 use native.Mathlib.Omega.{arith}
 use borrow.Author.Needs.{needs}
-use mathlib.Core.Path.{_≡_, refl, ap, _∙_}
+use mathlib.Core.Path.{_≡_, refl, _∙_}
 use lib.ListN.{length}
 use Rattle.memory.specs.Tables.{tables, state}
 use Rattle.step.specs.Items.{items}

@@ -1,6 +1,6 @@
 -- `dispatch::step_at` meets its contract: each arm of the match is the definition at its opcode.
 use native.Mathlib.Omega.{arith}
-use mathlib.Core.Path.{refl, _∙_}
+use mathlib.Core.Path.{_∙_}
 use Rattle.step.proofs.Arms.{six-on, beyond, arrives, jumps, switches, assigns, addresses, calls, returns-to, combines, changes, offsets, initializes, writes, reads, copies, drops, unknown}
 use borrow.Author.Needs.{needs}
 use Rattle.step.proofs.step_at.Statement.{statement}

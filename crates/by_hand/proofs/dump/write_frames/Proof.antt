@@ -1,10 +1,9 @@
 -- `dump::write_frames` meets its contract: the frames that are left, put after those that are, are all of them.
-use Prim.Native.Nat.{ℕ, _-_, min}
+use Prim.Native.Nat.{_-_}
 use native.Mathlib.Nat.{min-le-right}
 use native.Mathlib.Omega.{arith}
-use mathlib.Core.Path.{_≡_, refl, ap, _∙_}
+use mathlib.Core.Path.{_≡_, refl, _∙_}
 use lib.ListN.{length}
-use denote.Ref.{now}
 use Rattle.words.specs.Text.{text, puts}
 use Rattle.by_hand.specs.State.{each, frameAt, framesText}
 use Rattle.by_hand.proofs.Showing.{each-start, more-each, no-more-each}

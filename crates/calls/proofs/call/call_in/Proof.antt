@@ -1,5 +1,4 @@
 -- `call::call_in` meets its contract: its calls, one after another, by cases of what the variables' part answered.
-use native.Mathlib.Omega.{arith}
 use mathlib.Core.Path.{sym, _∙_}
 use borrow.Author.Tests.{ne-eqb}
 use Rattle.calls.specs.Code.{calledIn}

@@ -1,6 +1,5 @@
 -- `entry::host_read` meets its contract: the image is refused, or the read goes on with its constants.
-use native.Mathlib.Omega.{arith}
-use mathlib.Core.Path.{refl, sym, _∙_}
+use mathlib.Core.Path.{_∙_}
 use Rattle.eval.proofs.Tabled.{bounded-as, read-taken, read-not-taken}
 use borrow.Author.Needs.{needs}
 use Rattle.eval.proofs.entry.host_read.Statement.{statement}

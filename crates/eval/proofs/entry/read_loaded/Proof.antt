@@ -1,7 +1,7 @@
 -- `entry::read_loaded` meets its contract: the state is sound, and the memory reads with the image's constants.
 use native.Mathlib.Omega.{arith}
 use borrow.Author.Tests.{not-true, not-false}
-use mathlib.Core.Path.{refl, sym, _∙_}
+use mathlib.Core.Path.{sym, _∙_}
 use Rattle.eval.proofs.Tabled.{read-unsound, read-on, words}
 use borrow.Author.Needs.{needs}
 use Rattle.eval.proofs.entry.read_loaded.Statement.{statement}

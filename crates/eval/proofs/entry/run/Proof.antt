@@ -1,6 +1,5 @@
 -- `entry::run` meets its contract: the image is refused, or the run goes on over its tables.
-use native.Mathlib.Omega.{arith}
-use mathlib.Core.Path.{refl, sym, _∙_}
+use mathlib.Core.Path.{_∙_}
 use Rattle.eval.proofs.Tabled.{bounded-as, run-taken, run-not-taken}
 use borrow.Author.Needs.{needs}
 use Rattle.eval.proofs.entry.run.Statement.{statement}

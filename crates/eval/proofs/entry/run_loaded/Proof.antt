@@ -1,7 +1,7 @@
 -- `entry::run_loaded` meets its contract: the checks in their order, and then the steps over the parts that the counts name.
 use native.Mathlib.Omega.{arith}
 use borrow.Author.Tests.{not-true, not-false}
-use mathlib.Core.Path.{refl, sym, _∙_}
+use mathlib.Core.Path.{sym, _∙_}
 use Rattle.eval.proofs.Tabled.{run-unsound, run-idle, run-on, words, parts}
 use borrow.Author.Needs.{needs}
 use Rattle.eval.proofs.entry.run_loaded.Statement.{statement}

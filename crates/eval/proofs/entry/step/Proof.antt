@@ -1,6 +1,4 @@
 -- `entry::step` meets its contract: a run whose budget is one is a step.
-use native.Mathlib.Omega.{arith}
-use mathlib.Core.Path.{refl, sym, _∙_}
 use Rattle.eval.proofs.Tabled.{one-step-is}
 use borrow.Author.Needs.{needs}
 use Rattle.eval.proofs.entry.step.Statement.{statement}

@@ -1,6 +1,5 @@
 -- `compute::short` meets its contract: past its tests stand two numbers of one unsigned kind, which each arm combines; what is none of these goes to `quotient`.
 use mathlib.Core.Path.{refl}
-use native.Mathlib.Omega.{arith}
 use borrow.Author.Needs.{needs}
 use Rattle.instruction.proofs.Unsigned.{alike-found}
 use Rattle.instruction.proofs.compute.short.Statement.{statement}

@@ -1,5 +1,4 @@
 -- `dialog::converse` is safe and ends. The measure is the number of turns that are left, and every slice keeps its length.
-use native.Mathlib.Omega.{arith}
 use mathlib.Core.Path.{_≡_, refl, _∙_}
 use lib.ListN.{length}
 use borrow.Author.Needs.{needs}

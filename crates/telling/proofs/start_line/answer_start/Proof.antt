@@ -1,5 +1,5 @@
 -- `run::answer_start` meets its contract: too long, not read, or run.
-use mathlib.Core.Path.{refl, sym, _∙_}
+use mathlib.Core.Path.{refl}
 use Rattle.telling.proofs.Starting.{start-long, start-unread, start-runs}
 use borrow.Author.Needs.{needs}
 use Rattle.telling.proofs.start_line.answer_start.Statement.{statement}

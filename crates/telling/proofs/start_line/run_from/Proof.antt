@@ -1,5 +1,5 @@
 -- `run::run_from` meets its contract: case by case.
-use mathlib.Core.Path.{refl, sym, _∙_}
+use mathlib.Core.Path.{refl}
 use Rattle.telling.proofs.Starting.{from-case}
 use borrow.Author.Needs.{needs}
 use Rattle.telling.proofs.start_line.run_from.Statement.{statement}
