@@ -40,7 +40,7 @@ use Rattle.calls.proofs.VariablesAgree.{read-next}
 use Rattle.agree.specs.Seen.{seen, Agrees}
 use Rattle.instruction.proofs.Fields.{field-stands, operand-stands, operand-last}
 use Rattle.instruction.proofs.Values.{Fits, found-answer, operand-found, operand-good}
-use Rattle.agree.proofs.Bytes.{paste-bytes, bytes-are}
+use Rattle.instruction.proofs.Bytes.{paste-bytes, bytes-are}
 use Rattle.agree.proofs.Steady.{Steady, runs}
 use Rattle.agree.proofs.Whole.{read-bytes}
 use Rattle.agree.proofs.Finish.{refusal, went-same, onward, VariablesAgree, finish-agrees}

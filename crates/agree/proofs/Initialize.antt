@@ -35,7 +35,7 @@ use Rattle.instruction.specs.declared.step.Progress.the-variants.{Next}
 use Rattle.calls.proofs.CallAgrees.{moved-sound, moved-seen}
 use Rattle.agree.specs.Seen.{seen, Agrees}
 use Rattle.instruction.proofs.Fields.{field-stands}
-use Rattle.agree.proofs.Bytes.{zeroed-bytes, part-bytes}
+use Rattle.instruction.proofs.Bytes.{zeroed-bytes, part-bytes}
 use Rattle.agree.proofs.Steady.{Steady, runs}
 use Rattle.agree.proofs.Finish.{refusal, went-same, onward, withVariables}
 use Rattle.agree.proofs.Compute.{then-then}

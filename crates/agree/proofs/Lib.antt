@@ -1,4 +1,3 @@
-pub mod Bytes
 pub mod Steady
 pub mod Finish
 pub mod Compute

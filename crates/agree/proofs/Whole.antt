@@ -2,10 +2,10 @@
 use Prim.Native.Nat.{ℕ, zero, suc, _+_, _-_, _*_}
 use mathlib.Core.Bool.{Bool, true}
 use mathlib.Core.Path.{_≡_}
-use mathlib.Core.List.{List, [], _∷_, _++_}
+use mathlib.Core.List.{List, [], _∷_}
 use lib.ListN.{getD}
 use lib.Dec.{T}
-use mir.Facts.{and-yes, yes-and}
+use mir.Facts.{yes-and}
 use Rattle.memory.specs.Memory.{Frame, readBytes}
 use Rattle.memory.specs.Sound.{soundMachine, typed}
 use Rattle.memory.specs.Tables.{State, soundOf}
@@ -13,22 +13,17 @@ use Rattle.memory.specs.View.{tab, bytesOf, allocationsIn, frameIn, view}
 use Rattle.memory.proofs.Whole.{sound-seen}
 use Rattle.machine.specs.Sound.{all, areBytes, bytesIn, sound}
 use Rattle.machine.proofs.Sound.{sound-held}
-use Rattle.machine.proofs.SoundMemory.{later-same, sounds-kept}
+use Rattle.machine.proofs.SoundMemory.{later-same, sounds-kept, all-both}
 use Rattle.machine.proofs.Values.{Keeps, Bytes}
 use Rattle.agree.specs.Seen.{seen}
-use Rattle.agree.proofs.Bytes.{part-bytes, are-bytes}
+use Rattle.instruction.proofs.Bytes.{part-bytes, are-bytes}
 use Rattle.image.specs.Limits.{AreBytes}
 use Rattle.value.proofs.Truth.{is-yes}
-
-all-join : {A : Type 0} (f : A → Bool) (l r : List A) → T (all f l) → T (all f r) → T (all f (l ++ r))
-unfolding all
-all-join f [] r t u = u
-all-join f (x ∷ l) r t u = let v = and-yes (f x) (all f l) t in yes-and (f x) (all f (l ++ r)) (v .0) (all-join f l r (v .1) u)
 
 all-tab : {A : Type 0} (f : A → Bool) (n : ℕ) (g : ℕ → A) → ((i : ℕ) → T (f (g i))) → T (all f (tab n g))
 unfolding tab all
 all-tab f zero g h = tt
-all-tab f (suc n) g h = all-join f (tab n g) (g n ∷ []) (all-tab f n g h) (yes-and (f (g n)) true (h n) tt)
+all-tab f (suc n) g h = all-both f (tab n g) (g n ∷ []) (all-tab f n g h) (yes-and (f (g n)) true (h n) tt)
 
 module _ (s : State) (h : soundOf s ≡ true) (bytes : AreBytes (s .memory .store)) where
   allocation-bytes : (k : ℕ) → T (areBytes (bytesOf (s .memory .bounds) (s .memory .store) k))

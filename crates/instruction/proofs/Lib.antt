@@ -1,5 +1,6 @@
 pub mod Decoded
 pub mod Fields
+pub mod Bytes
 pub mod Handed
 pub mod Laws
 pub mod Through

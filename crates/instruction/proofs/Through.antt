@@ -1,15 +1,14 @@
 -- Values through pointers: their bytes written and read again, and what Write, Read, Initialize and Copy leave.
-use Prim.Native.Nat.{ℕ, zero, suc, _+_, _-_, _<_, _≤_}
+use Prim.Native.Nat.{ℕ, _+_, _-_, _<_, _≤_}
 use native.Mathlib.Nat.{sub-zero}
 use native.Mathlib.Omega.{arith}
 use mathlib.Core.Path.{_≡_, refl, sym, ap, _∙_}
 use mathlib.Core.Bool.{Bool, true, false}
 use mathlib.Core.List.{List, [], _∷_, _++_, append-nil}
 use mathlib.Core.Option.{Option, none, some}
-use lib.Dec.{T, ltb, lt→ltb}
-use mir.Facts.{yes-and}
-use lib.ListN.{length, getD, take, drop, replicate, length-replicate, length-append}
-use lib.Seq.{take-at, length-take-le, getD-drop}
+use lib.Dec.{T, ltb}
+use lib.ListN.{length, take, drop, replicate, length-replicate, length-append}
+use lib.Seq.{take-at, length-take-le}
 use borrow.Author.Tests.{eq-eqb, ne-eqb, le-leb, lt-leb, lt-ltb, le-ltb, ltb-true, ltb-false}
 use Rattle.value.specs.Refusal.{notSound, noInstruction, bytesExceedSize}
 use Rattle.value.specs.Answer.{Answer, ok, refused, need}
@@ -23,7 +22,6 @@ use Rattle.value.specs.declared.Tagged.the-variants as Tg
 use Rattle.value.proofs.LowFirst.{length-bytes, size-small}
 use Rattle.value.proofs.Roundtrip.{bits-back}
 use Rattle.value.proofs.Truth.{is-true}
-use Rattle.machine.specs.Sound.{all, areBytes}
 use Rattle.machine.proofs.Values.{Keeps, kept, Good, Bytes, read-good}
 use Rattle.memory.specs.Tables.{Tables, Both, both, tables, out, readAccessOf, constantAccessOf, constantOf, takenAt, getAt, readOf, allocatedOf, writtenOf, copiedOf}
 use Rattle.memory.specs.declared.Registers.{Registers}
@@ -49,6 +47,8 @@ use Rattle.instruction.specs.declared.variables.Found.{Found}
 use Rattle.instruction.specs.declared.step.Progress.{Progress}
 use Rattle.instruction.specs.declared.step.Progress.the-variants.{Refused}
 use Rattle.instruction.proofs.Computed.{refused-first, value-first, unsound-first}
+use Rattle.instruction.proofs.Bytes.{are-bytes, take-bytes, part-bytes}
+use Rattle.image.specs.Limits.{AreBytes}
 
 -- ---- a value's bytes, written
 
@@ -119,27 +119,6 @@ module _ (t : Tables) (s vars : List ℕ) (at : ℕ) (to : Operand) (e : to ≡ 
 
 -- ---- a value's bytes, read
 
--- each element is a byte
-abbrev pub Small : List ℕ → Type 0
-Small l = (i : ℕ) → getD l i 0 < 256
-
-are-bytes : (l : List ℕ) → Small l → T (areBytes l)
-unfolding all
-are-bytes [] h = tt
-are-bytes (b ∷ bs) h = yes-and (ltb b 256) (areBytes bs) (lt→ltb b 256 (h 0)) (are-bytes bs (λ i. h (suc i)))
-
-small-take : (n : ℕ) (l : List ℕ) → Small l → Small (take n l)
-small-take zero l h i = omega arith
-small-take (suc n) [] h i = omega arith
-small-take (suc n) (x ∷ xs) h zero = h 0
-small-take (suc n) (x ∷ xs) h (suc i) = small-take n xs (λ j. h (suc j)) i
-
-small-part : (l : List ℕ) (at n : ℕ) → Small l → Small (take n (drop at l))
-small-part l at n h = small-take n (drop at l) (λ i. rw getD-drop (h (at + i)))
-
-part-bytes : (l : List ℕ) (at n : ℕ) → at + n ≤ length l → Small l → Bytes n (take n (drop at l))
-part-bytes l at n h s = (part-length l at n h, are-bytes (take n (drop at l)) (small-part l at n s))
-
 -- and back to tag and bits
 loaded-back : (a : Answer Value) → Keeps Good a → loadedAs (answered a) ≡ foundOf a
 unfolding answered
@@ -147,11 +126,11 @@ loaded-back (ok v) (kept g) = ap (λ (w : Value). found (tag (w .kind)) (w .bits
 loaded-back (refused n) k = refl
 
 -- a type's own number of bytes, at the front of others
-loaded-front : (ty : IrType) (bs : List ℕ) → size (kindOf ty) ≤ length bs → Small bs → loadedAs (loaded ty bs) ≡ foundOf (fromBytes ty (take (size (kindOf ty)) bs))
+loaded-front : (ty : IrType) (bs : List ℕ) → size (kindOf ty) ≤ length bs → AreBytes bs → loadedAs (loaded ty bs) ≡ foundOf (fromBytes ty (take (size (kindOf ty)) bs))
 unfolding loaded
 loaded-front ty bs h small =
     let n = size (kindOf ty) in
-    rw (le-leb n (length bs) h) (loaded-back (fromBytes ty (take n bs)) (read-good ty (take n bs) (length-take-le n bs h, are-bytes (take n bs) (small-take n bs small))))
+    rw (le-leb n (length bs) h) (loaded-back (fromBytes ty (take n bs)) (read-good ty (take n bs) (length-take-le n bs h, are-bytes (take n bs) (take-bytes n bs small))))
 
 -- a type of eight bytes takes any
 word-bytes : (ty : IrType) → size (kindOf ty) ≡ 8 → (bs : List ℕ) → fromBytes ty bs ≡ ok (value (kindOf ty) (leNumber bs))
@@ -169,7 +148,7 @@ word-bytes F32 e bs = absurd (omega arith)
 word-bytes F64 e bs = refl
 word-bytes Pointer e bs = refl
 
-word-front : (ty : IrType) → size (kindOf ty) ≡ 8 → (bs : List ℕ) → 8 ≤ length bs → Small bs → loadedAs (loaded ty bs) ≡ found (tag (kindOf ty)) (leNumber (take 8 bs))
+word-front : (ty : IrType) → size (kindOf ty) ≡ 8 → (bs : List ℕ) → 8 ≤ length bs → AreBytes bs → loadedAs (loaded ty bs) ≡ found (tag (kindOf ty)) (leNumber (take 8 bs))
 word-front ty e bs h small =
     loaded-front ty bs (rw e h) small
     ∙ ap foundOf (ap (λ (n : ℕ). fromBytes ty (take n bs)) e ∙ word-bytes ty e (take 8 bs))
@@ -179,7 +158,7 @@ unfolding loaded kindOf size
 too-few bs h = rw (lt-leb 8 (length bs) h)
 
 -- the bits of a U64, with a type's own tag
-pub word-loaded : (ty : IrType) → size (kindOf ty) ≡ 8 → (bs : List ℕ) → Small bs → (w : Found) → w ≡ loadedAs (loaded U64 bs) → (w .tag ≡ 0 → ⊥) → (g : ℕ) → g ≡ tag (kindOf ty)
+pub word-loaded : (ty : IrType) → size (kindOf ty) ≡ 8 → (bs : List ℕ) → AreBytes bs → (w : Found) → w ≡ loadedAs (loaded U64 bs) → (w .tag ≡ 0 → ⊥) → (g : ℕ) → g ≡ tag (kindOf ty)
     → found g (w .bits) ≡ loadedAs (loaded ty bs)
 unfolding kindOf size
 word-loaded ty e bs small w h n g d = go (ltb (length bs) 8) refl
@@ -204,16 +183,16 @@ module _ (t : Tables) (p : ℕ) (ty : IrType) (raw extents : List ℕ) (n : ℕ)
       ap (λ (y : Source). valueIn ty (getAt y (t .store) fresh raw extents .answer) (getAt y (t .store) fresh raw extents .table))
       (sym e ∙ ap (readAccessOf t p) (sym as-long))
 
-  part-loaded : (s : List ℕ) (at : ℕ) → at + n ≤ length s → Small s → loadedAs (loaded ty (take (at + n - at) (drop at s))) ≡ foundOf (fromBytes ty (take (length fresh) (drop at s)))
+  part-loaded : (s : List ℕ) (at : ℕ) → at + n ≤ length s → AreBytes s → loadedAs (loaded ty (take (at + n - at) (drop at s))) ≡ foundOf (fromBytes ty (take (length fresh) (drop at s)))
   part-loaded s at h small =
       let w : at + n - at ≡ n = omega arith in
       let bs = take n (drop at s) in
       let k : length bs ≡ n = part-length s at n h in
       let whole : take (size (kindOf ty)) bs ≡ bs = ap (take (size (kindOf ty))) (sym (append-nil bs)) ∙ take-at bs [] (size (kindOf ty)) (k ∙ l) in
-      ap (λ (i : ℕ). loadedAs (loaded ty (take i (drop at s)))) w ∙ loaded-front ty bs (omega arith) (small-part s at n small)
+      ap (λ (i : ℕ). loadedAs (loaded ty (take i (drop at s)))) w ∙ loaded-front ty bs (omega arith) (part-bytes s at n small)
       ∙ ap (λ (r : List ℕ). foundOf (fromBytes ty r)) (whole ∙ ap (λ (i : ℕ). take i (drop at s)) (sym as-long))
 
-  pub read-local : (at : ℕ) → readAccessOf t p n ≡ source.Local at → Small (t .store) → loadedAs (loaded ty (take (at + n - at) (drop at (t .store)))) ≡ foundOf (readAs t p ty raw extents)
+  pub read-local : (at : ℕ) → readAccessOf t p n ≡ source.Local at → AreBytes (t .store) → loadedAs (loaded ty (take (at + n - at) (drop at (t .store)))) ≡ foundOf (readAs t p ty raw extents)
   read-local at e small = part-loaded (t .store) at (read-fits t p n at e) small ∙ ap foundOf (as-got (source.Local at) e)
 
   pub not-read : (x : ℕ) → readAccessOf t p n ≡ source.Refused x → found 0 x ≡ foundOf (readAs t p ty raw extents)
@@ -226,7 +205,7 @@ module _ (t : Tables) (p : ℕ) (ty : IrType) (raw extents : List ℕ) (n : ℕ)
         ap (λ (y : Place). valueIn ty (takenAt y fresh raw .answer) (takenAt y fresh raw .table)) (sym d ∙ ap (λ (i : ℕ). constantAccessOf k i raw extents) (sym as-long))
         ∙ as-got (source.Constant k) e
 
-    pub read-constant : (at : ℕ) → constantAccessOf k n raw extents ≡ place.At at → Small raw → loadedAs (loaded ty (take (at + n - at) (drop at raw))) ≡ foundOf (readAs t p ty raw extents)
+    pub read-constant : (at : ℕ) → constantAccessOf k n raw extents ≡ place.At at → AreBytes raw → loadedAs (loaded ty (take (at + n - at) (drop at raw))) ≡ foundOf (readAs t p ty raw extents)
     read-constant at d small = part-loaded raw at (constant-fits k n raw extents at d) small ∙ ap foundOf (as-taken (place.At at) d)
 
     pub no-constant : (x : ℕ) → constantAccessOf k n raw extents ≡ place.Refused x → found 0 x ≡ foundOf (readAs t p ty raw extents)

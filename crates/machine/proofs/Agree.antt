@@ -139,6 +139,15 @@ pub record Sim (m : Memory) (h : History) : Type 0 where
 pub id-at : (fs : List Frame) (i : ℕ) → getD (ids fs) i 0 ≡ frameAt fs i .id
 id-at fs i = List·getD-map (λ (f : Frame). f .id) fs i noFrame
 
+-- another frame in one's place, with the same id
+pub ids-kept : (fs : List Frame) (i : ℕ) (bss : List (List ℕ)) → ids (set fs i (withAllocations (frameAt fs i) bss)) ≡ ids fs
+ids-kept fs i bss = map-set-same (λ (f : Frame). f .id) fs i (withAllocations (frameAt fs i) bss) noFrame refl
+
+pub id-kept : (fs : List Frame) (i : ℕ) (bss : List (List ℕ)) (k : ℕ) → frameAt (set fs i (withAllocations (frameAt fs i) bss)) k .id ≡ frameAt fs k .id
+id-kept fs i bss k =
+    let changed = set fs i (withAllocations (frameAt fs i) bss) in
+    sym (id-at changed k) ∙ ap (λ (l : List ℕ). getD l k 0) (ids-kept fs i bss) ∙ id-at fs k
+
 pub on-stack : (fs : List Frame) (i : ℕ) {f : ℕ} → i < length fs → frameAt fs i .id ≡ f → T (among f (ids fs))
 on-stack fs i {f} h e = among-at f (ids fs) i (rw length-map h) (id-at fs i ∙ e)
 
@@ -215,10 +224,10 @@ module _ {m : Memory} {h : History} (s : Sim m h) (t : ℕ) (in-stack : t < leng
   changed = set (m .frames) t (withAllocations (frameAt (m .frames) t) (map contents ns))
 
   pub same-ids : ids changed ≡ ids (m .frames)
-  same-ids = map-set-same (λ (f : Frame). f .id) (m .frames) t (withAllocations (frameAt (m .frames) t) (map contents ns)) noFrame refl
+  same-ids = ids-kept (m .frames) t (map contents ns)
 
   pub same-id : (i : ℕ) → frameAt changed i .id ≡ frameAt (m .frames) i .id
-  same-id i = sym (id-at changed i) ∙ ap (λ (l : List ℕ). getD l i 0) same-ids ∙ id-at (m .frames) i
+  same-id i = id-kept (m .frames) t (map contents ns) i
 
   same-back : (i : ℕ) → frameAt changed i .back ≡ frameAt (m .frames) i .back
   same-back i =

@@ -17,7 +17,7 @@ use Rattle.memory.specs.Memory.{Memory, Back, Frame, Pointer, constant, local, 
 use Rattle.memory.specs.Sound.{rising, goodBack, goodBacks, soundMemory}
 use Rattle.machine.specs.Sound.{all, areBytes, bytesIn}
 use Rattle.machine.specs.Believed.{believed}
-use Rattle.machine.proofs.Agree.{ids, id-at, length-snoc}
+use Rattle.machine.proofs.Agree.{ids, length-snoc, ids-kept, id-kept}
 use Rattle.machine.proofs.Values.{Bytes, Keeps, kept, no-answer, keeps-need}
 use Rattle.machine.proofs.Kept.{Kept, Popping, at-root, back-to}
 
@@ -99,7 +99,7 @@ all-at g [] i d t u = u
 all-at g (y ∷ l) zero d t u = and-yes (g y) (all g l) t .0
 all-at g (y ∷ l) (suc i) d t u = all-at g l i d (and-yes (g y) (all g l) t .1) u
 
-all-both : {A : Type 0} (g : A → Bool) (l r : List A) → T (all g l) → T (all g r) → T (all g (l ++ r))
+pub all-both : {A : Type 0} (g : A → Bool) (l r : List A) → T (all g l) → T (all g r) → T (all g (l ++ r))
 unfolding all
 all-both g [] r t u = u
 all-both g (y ∷ l) r t u = let v = and-yes (g y) (all g l) t in yes-and (g y) (all g (l ++ r)) (v .0) (all-both g l r (v .1) u)
@@ -233,13 +233,13 @@ module _ (m : Memory) (i : ℕ) (bss : List (List ℕ)) (s : Solid m) where
   changed = set (m .frames) i (withAllocations (frameAt (m .frames) i) bss)
 
   same-ids : ids changed ≡ ids (m .frames)
-  same-ids = map-set-same (λ (f : Frame). f .id) (m .frames) i (withAllocations (frameAt (m .frames) i) bss) noFrame refl
+  same-ids = ids-kept (m .frames) i bss
 
   same-backs : backs changed ≡ backs (m .frames)
   same-backs = map-set-same (λ (f : Frame). f .back) (m .frames) i (withAllocations (frameAt (m .frames) i) bss) noFrame refl
 
   same-id : (k : ℕ) → frameAt changed k .id ≡ frameAt (m .frames) k .id
-  same-id k = sym (id-at changed k) ∙ ap (λ (l : List ℕ). getD l k 0) same-ids ∙ id-at (m .frames) k
+  same-id k = id-kept (m .frames) i bss k
 
   same-depth : length changed ≡ length (m .frames)
   same-depth = length-set (m .frames) i _

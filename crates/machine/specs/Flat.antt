@@ -5,6 +5,7 @@ use lib.ListN.{length}
 use Rattle.memory.specs.Memory.{Frame, frameAt, bytesAt}
 use Rattle.memory.specs.Flat.{startOf, allOf, firstOf}
 
+-- where allocation j of frame i begins
 unfoldable pub placeOf : List Frame → (index allocation : ℕ) → ℕ
 placeOf fs i j = startOf (allOf fs) (firstOf fs i + j)
 

@@ -26,7 +26,7 @@ use Rattle.machine.specs.Entries.{answers, onwards}
 use Rattle.machine.proofs.Demand.{replies-are-told}
 use Rattle.decode.proofs.Accepted.{loaded-accepted}
 use Rattle.agree.specs.Seen.{seen}
-use Rattle.agree.proofs.Bytes.{are-bytes}
+use Rattle.instruction.proofs.Bytes.{are-bytes}
 use Rattle.promise.specs.Calls.{Call, call, Heard, Good, Asks, allocating, writing, reading, starting, misgiven, stepping, running, listing, AllAsk, no-more, and-then, Tells, asked, passed, heardBy, leftBy}
 use Rattle.promise.specs.Promised.{RepliesAreAnswers, StatesFollow, Begun, begun, FreshFollows, CodeRepliesAreTold}
 use Rattle.promise.proofs.Refused.{images-refused}

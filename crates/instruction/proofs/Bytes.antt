@@ -20,7 +20,7 @@ append-bytes [] b f g k = g k
 append-bytes (x ∷ a) b f g zero = f 0
 append-bytes (x ∷ a) b f g (suc k) = append-bytes a b (λ j. f (suc j)) g k
 
-take-bytes : (n : ℕ) (l : List ℕ) → AreBytes l → AreBytes (take n l)
+pub take-bytes : (n : ℕ) (l : List ℕ) → AreBytes l → AreBytes (take n l)
 take-bytes zero l f k = no-bytes k
 take-bytes (suc n) [] f k = no-bytes k
 take-bytes (suc n) (x ∷ l) f zero = f 0
