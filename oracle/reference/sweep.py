@@ -6,7 +6,7 @@ from image import (
     ADD, ASN, ASSIGN, CALL, CHAR, CONSTANT_ADDRESS, COPY, DIV, DROP, FDIV, FLOAT_CMP, INITIALIZE, INT_CMP, JUMP, MOD, MUL,
     NEGATE, NOT, OFFSET, POINTER, READ, RETURN, SUB, SWITCH, WIDTHS, WRITE, write,
 )
-from machine import BOOL, F32, F64, FLOATS, I8, SIGNED, U64, U8, UNSIGNED
+from machine import BOOL, F32, F64, FLOATS, I8, SIGNED, U16, U64, U8, UNSIGNED
 
 KINDS = range(1, 15)
 TYPES = [tag for tag in KINDS if tag not in (CHAR, ASN)]
@@ -263,6 +263,19 @@ def sweep_floats():
             yield f"{wholes[0 if k % 10 else k // 10 % 3]} {started(left, right)}"
 
 
+def sweep_switches():
+    """Switches of many branches, one of them with a number or a label on either side of 128, the first that takes two bytes."""
+    for count in (7, 8, 9, 64):
+        for place in (0, 3, count - 1):
+            for wide, in_label in [(wide, in_label) for wide in (127, 128, 129, 256) for in_label in (False, True) if wide < 130 or not in_label]:
+                branches = [(k, k + 1) for k in range(count)]
+                branches[place] = (place, wide) if in_label else (wide, place + 1)
+                blocks = [[(SWITCH, LEFT, branches, 130)]] + [[(RETURN, None)]] * 130
+                whole = write({"variables": 4, "constants": [], "functions": [function(parameters=[2])], "blocks": blocks}).hex()
+                for value in ((U8, 0), (U8, 1), (U8, place), (U8, count - 1), (U8, 130), (U16, wide)):
+                    yield f"{whole} {started(value)}"
+
+
 def sweep():
-    for group in (sweep_named, sweep_calls, sweep_starts, sweep_limits, sweep_pointers, sweep_unary, sweep_memory, sweep_floats, sweep_binary):
+    for group in (sweep_named, sweep_calls, sweep_starts, sweep_limits, sweep_pointers, sweep_unary, sweep_memory, sweep_floats, sweep_binary, sweep_switches):
         yield from group()
