@@ -146,16 +146,13 @@ module _ (s : List ℕ) where
   unfolding calleeAt
   callee-read at kind entry result context flag wanted after count a b c d e f g h = cc
 
-  past-zero : (n : ℕ) → 0 < n → n ≡ 0 → ⊥
-  past-zero n l e = omega arith
-
   call-found : (at : ℕ) (to : Option Declared) (context : Option Operand) (f : ℕ) (os : List Operand) (returns : Option ℕ) (a start b c d g n : ℕ)
       → optionalTo s at ≡ field (variableOut (toOf to)) a → optionalOperand s a ≡ record { start = start; next = b } → fieldAt s b ≡ field f c → fieldAt s c ≡ field (length os) d
       → operandsSkipped s (length os) d ≡ g → optionalVariable s g ≡ field (variableOut returns) n → ContextRead s start context → OperandsRead s d os → 0 < n
       → CallRead s (callAt s at) (callingOf to context f os returns)
   call-found at to context f os returns a start b c d g n r₁ r₂ r₃ r₄ r₅ r₆ ctx args l =
       rw (call-read at (field (variableOut (toOf to)) a) (record { start = start; next = b }) (field f c) (field (length os) d) g (field (variableOut returns) n) r₁ r₂ r₃ r₄ r₅ r₆)
-      (record { to = refl; context = ctx; callee = refl; given = refl; arguments = args; returns = refl; there = past-zero n l })
+      (record { to = refl; context = ctx; callee = refl; given = refl; arguments = args; returns = refl; there = λ (e : n ≡ 0). omega arith })
 
   pub call-stands : (at : ℕ) (to : Option Declared) (context : Option Operand) (f : ℕ) (os : List Operand) (returns : Option ℕ) (e : ℕ) → 0 < at → VariableFits (toOf to) → VariableFits returns
       → Stand s at (W.maybe W.declared to ++ W.maybe W.operand context ++ W.number f ++ W.counted W.operand os ++ W.maybe W.number returns) e
@@ -175,7 +172,7 @@ module _ (s : List ℕ) where
       → flag ≡ W.flagNumber (F .returnPointer) → ParametersRead s h (F .parameters) → SlotsRead s n (F .slots) → 0 < n → CalleeRead s (calleeAt s at) F
   callee-found at F kind flag a b c d g h i n r₁ r₂ r₃ r₄ r₅ r₆ r₇ r₈ w ps xs l =
       rw (callee-read at (field kind a) (field (F .entry) b) (field (F .returnVar) c) (field (F .contextVar) d) (field flag g) (field (length (F .parameters)) h) i (field (length (F .slots)) n) r₁ r₂ r₃ r₄ r₅ r₆ r₇ r₈)
-      (record { entry = refl; result = refl; context = refl; flag = w; wanted = refl; parameters = ps; count = refl; slots = xs; there = past-zero n l })
+      (record { entry = refl; result = refl; context = refl; flag = w; wanted = refl; parameters = ps; count = refl; slots = xs; there = λ (e : n ≡ 0). omega arith })
 
   -- from the parameters on
   abbrev parametersOn : Function → List Piece

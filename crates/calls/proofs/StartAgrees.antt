@@ -17,6 +17,7 @@ use Rattle.memory.specs.Tables.{Tables, storedOk, variableOk}
 use Rattle.memory.specs.View.{view, variablesIn}
 use Rattle.memory.specs.declared.Place.the-variants as place
 use Rattle.memory.specs.declared.Moved.the-variants as moved
+use Rattle.memory.proofs.Beginning.{zeros}
 use Rattle.memory.proofs.Every.{by-test}
 use Rattle.memory.proofs.Facts.{Sound}
 use Rattle.memory.proofs.Stored.{stored-none}
@@ -53,11 +54,6 @@ AllGood [] = Unit {0}
 AllGood (g ∷ gs) = Good g × AllGood gs
 
 -- ---- the variables
-
-zeros : (n k : ℕ) → _≡_ {A = ℕ} (getD (replicate n 0) k 0) 0
-zeros zero k = refl
-zeros (suc n) zero = refl
-zeros (suc n) (suc k) = zeros n k
 
 -- "Start clears all variables"
 cleared-shown : (n : ℕ) → n ≡ 512 → Shows (replicate n 0) unset

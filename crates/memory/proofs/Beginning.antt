@@ -20,7 +20,7 @@ use Rattle.memory.proofs.Facts.{Sound, FrameSound, sound-test, ready-te
 use Rattle.memory.proofs.Frames.{memory-same, allocations-none, above-top}
 use Rattle.memory.proofs.Stored.{stored-none}
 
-zeros : (n k : ℕ) → getD {A = ℕ} (replicate n 0) k 0 ≡ 0
+pub zeros : (n k : ℕ) → getD {A = ℕ} (replicate n 0) k 0 ≡ 0
 zeros zero k = refl
 zeros (suc n) zero = refl
 zeros (suc n) (suc k) = zeros n k
