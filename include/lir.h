@@ -2,8 +2,8 @@
 //
 // A slice is a pointer and a count of its elements; a count of 0 goes with any pointer that is aligned and not null.
 // Every length is tested: no call reaches past what it was lent. Slices that are written must not overlap any other.
-// Each function returns 0, or the number of a refusal. A refused call leaves all that it was lent as it stood, but for `answer`,
-// and but for a run, which a refused instruction stops after the steps that were done. A call that takes an answer sets all its words,
+// Each function returns 0, or the number of a refusal. A refused call leaves all that it was lent as it stood, except `answer`;
+// a run that a refused instruction stops keeps the steps done before it. A call that takes an answer sets all its words,
 // to 0 where there is nothing to say; a wrong count of registers or answer changes nothing at all.
 #ifndef LIR_H
 #define LIR_H

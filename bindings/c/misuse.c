@@ -1,7 +1,7 @@
 // Every function with wrong lengths, unsound tables and random bytes: only answers and refusals come back, and what must stay, stays.
 // Each slice ends or begins at a page that may not be touched, so that one element past it ends the program.
 //
-// misuse [ROUNDS] [SEED]: each round calls all nine functions. Standard input has images, one a line in hexadecimal.
+// misuse [ROUNDS] [SEED]: each round calls eight functions, and one of twelve `lir_fresh` too. Standard input has images, one a line in hexadecimal.
 #define _GNU_SOURCE
 #include <inttypes.h>
 #include <stdio.h>

@@ -3,7 +3,9 @@
 import os
 
 from console import Console
-from examples import CASES, MARCH
+from examples import CASES, MARCH, program, variable
+from image import OFFSET, RETURN
+from sweep import function
 
 LIR = os.path.join(os.path.dirname(os.path.abspath(__file__)), "..", "..", "crates", "lir")
 IMAGES = {name: data.hex() for name, data, _ in CASES}
@@ -75,12 +77,21 @@ POKES = [
     "poke local 1 0 0 0", "poke var 2 Pointer 1", "step", "poke var 2 Pointer 2", "step", "poke var 2 U8 2", "step", "poke unset 2", "step", "dump",
 ]
 
+# Adds 1 to the offset of the pointer that is its context, twice.
+FAR = program(3, [], [function(entry=0)], [[(OFFSET, 2, variable(1), 1), (OFFSET, 2, variable(2), 1), (RETURN, variable(2))]])
+
+# The last id and the last offset: what no run from fresh memory comes to.
+ENDS = [
+    "fresh", "image " + MARCH.hex(), "start 0 U64 0", "poke counter 4294967295", "step", "dump", "poke counter 4294967294", "step", "dump",
+    "fresh", "image " + FAR.hex(), "start 0 Pointer 0", "poke local 0 0 0 18446744073709551614", "step", "step", "dump", "live 2",
+]
+
 # The longest line and one that is longer, and the last line without its end.
 LONG = ["image " + "Ab" * 131069, "step", "read 0 0", "image " + "ab" * 131069 + "a", "write 0 " + "00" * 32769, "dump"]
 
 
 def main():
-    lines = COMMANDS + BAD + POKES + LONG + INCIDENT
+    lines = COMMANDS + BAD + POKES + ENDS + LONG + INCIDENT
     console = Console()
     with open(os.path.join(LIR, "stdin"), "wb") as out:
         out.write("\n".join(lines).encode())

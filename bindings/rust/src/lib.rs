@@ -152,8 +152,8 @@ impl Machine {
 
     /// A variable's value, where it is set.
     pub fn variable(&self, number: usize) -> Option<Value> {
-        let (tag, bits) = (*self.variables.get(number * 2)?, self.variables[number * 2 + 1]);
-        (tag != 0).then_some(Value { tag, bits })
+        let pair = self.variables.chunks_exact(2).nth(number)?;
+        (pair[0] != 0).then_some(Value { tag: pair[0], bits: pair[1] })
     }
 
     /// A function of the image begins.

@@ -27,6 +27,7 @@ fn a_paused_run_goes_on() {
     let mut machine = started(7);
     assert_eq!(machine.step(P1), Ok(None));
     assert_eq!((machine.is_running(), machine.next(), machine.variable(2)), (true, 1, Some(Value::u8(8))));
+    assert!([0, 256, usize::MAX / 2 + 2].iter().all(|&number| machine.variable(number).is_none()));
     assert_eq!(machine.step(P1), Ok(Some(Some(Value::u8(8)))));
     assert!(!machine.is_running());
     assert_eq!(machine.run(P1, 1), refused(Refusal::Idle));
