@@ -1,5 +1,5 @@
 -- A start agrees with the believed machine, once the checks of its entry are made: on sound idle tables it is refused with the same number and nothing has changed, or the tables after show the believed machine's state.
-use Prim.Native.Nat.{ℕ, zero, suc, _+_, _*_, _<_, _≤_}
+use Prim.Native.Nat.{ℕ, _+_, _*_, _<_, _≤_}
 use native.Mathlib.Omega.{arith}
 use mathlib.Core.Bool.{Bool, true, false}
 use mathlib.Core.Path.{_≡_, refl, sym, ap, ap₂, _∙_, subst, subst₂, fun-ext}

@@ -22,7 +22,7 @@ use Rattle.value.specs.declared.Tagged.the-variants as Tg
 use Rattle.value.proofs.LowFirst.{length-bytes, size-small}
 use Rattle.value.proofs.Roundtrip.{bits-back}
 use Rattle.value.proofs.Truth.{is-true}
-use Rattle.machine.proofs.Values.{Keeps, kept, Good, Bytes, read-good}
+use Rattle.machine.proofs.Values.{Keeps, kept, Good, read-good}
 use Rattle.memory.specs.Tables.{Tables, Both, both, tables, out, readAccessOf, constantAccessOf, constantOf, takenAt, getAt, readOf, allocatedOf, writtenOf, copiedOf}
 use Rattle.memory.specs.declared.Registers.{Registers}
 use Rattle.memory.specs.declared.Given.{Given}

@@ -12,7 +12,6 @@ use lib.Seq.{ext-getD}
 use lib.Dec.{ltb, leb, eqb}
 use borrow.Author.Tests.{ltb-true, ltb-false, leb-true, eqb-true, eq-eqb}
 use Rattle.value.specs.Value.{Value, tag}
-use Rattle.value.specs.Value as kind
 use Rattle.value.proofs.Truth.{both-true, and-true}
 use Rattle.memory.specs.Memory.{Back, Frame, Pointer, constant, local, Memory, noFrame, frameAt, liveCount, liveBytes}
 use Rattle.memory.specs.Memory as M

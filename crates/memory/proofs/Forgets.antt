@@ -10,7 +10,6 @@ use lib.ListN.{getD, length}
 use lib.Dec.{ltb, leb, eqb}
 use borrow.Author.Tests.{ltb-true, ltb-false, leb-true, leb-false, eqb-true}
 use Rattle.value.specs.Value.{Value, value, tag}
-use Rattle.value.specs.Value as kind
 use Rattle.value.proofs.Truth.{both-true}
 use Rattle.memory.specs.Memory as M
 use Rattle.memory.specs.Tables as T
