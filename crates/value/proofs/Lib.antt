@@ -9,5 +9,6 @@ pub mod Comparisons
 pub mod Patterns
 pub mod Rounding
 pub mod Fields
+pub mod Nearest
 pub mod Cases
 pub mod Settled

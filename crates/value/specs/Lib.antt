@@ -1,6 +1,7 @@
 pub mod Refusal
 pub mod Answer
 pub mod Divide
+pub mod Nearest
 pub mod Value
 pub mod Tags
 pub mod Floats
