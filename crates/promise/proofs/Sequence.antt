@@ -27,7 +27,7 @@ use Rattle.machine.proofs.Demand.{replies-are-told}
 use Rattle.decode.proofs.Accepted.{loaded-accepted}
 use Rattle.agree.specs.Seen.{seen}
 use Rattle.instruction.proofs.Bytes.{are-bytes}
-use Rattle.promise.specs.Calls.{Call, call, Heard, Good, Asks, allocating, writing, reading, starting, misgiven, stepping, running, listing, AllAsk, no-more, and-then, Tells, asked, passed, heardBy, leftBy}
+use Rattle.promise.specs.Calls.{Call, call, Heard, Good, Asks, allocating, writing, reading, starting, misgiven, stepping, running, listing, Tells, asked, passed, withRefusals, heardBy, leftBy}
 use Rattle.promise.specs.Promised.{RepliesAreAnswers, StatesFollow, Begun, begun, FreshFollows, CodeRepliesAreTold}
 use Rattle.promise.proofs.Refused.{images-refused}
 use Rattle.promise.proofs.Lent.{bad-given}
@@ -35,12 +35,16 @@ use Rattle.promise.proofs.Answers.{entries-answer}
 use Rattle.image.specs.Limits.{AreBytes}
 
 pub replies-are-answers : RepliesAreAnswers
-unfolding heardBy answers
-replies-are-answers cs as′ AllAsk.no-more t g = refl
-replies-are-answers cs as′ (and-then {c} {a} {cs = rest} {as′ = more} q w) t g =
+unfolding heardBy answers withRefusals
+replies-are-answers cs as′ Tells.no-more t g = refl
+replies-are-answers cs as′ (asked {c} {a} {cs = rest} {as′ = more} q w) t g =
     let first = entries-answer c a q t g in
     ap₂ (λ (r : Reply) (l : List Reply). r ∷ l) (ap (λ (x : Turn Memory). x .reply) (first .same))
-    (replies-are-answers rest more w (call c t .left) (first .good) ∙ ap (λ (x : Turn Memory). answers more (x .machine)) (first .same))
+    (replies-are-answers rest more w (call c t .left) (first .good) ∙ ap (λ (x : Turn Memory). withRefusals w (answers more (x .machine))) (first .same))
+replies-are-answers cs as′ (passed {c} {n} {cs = rest} q w) t g =
+    let same = images-refused c n q t in
+    ap₂ (λ (r : Reply) (l : List Reply). r ∷ l) (ap (λ (x : Heard). x .reply) same)
+    (ap (λ (x : Heard). heardBy rest (x .left)) same ∙ replies-are-answers rest as′ w t g)
 
 pub states-follow : StatesFollow
 unfolding leftBy onwards
@@ -99,12 +103,7 @@ tells-accepted cs as′ Tells.no-more = tt
 tells-accepted cs as′ (asked {c} {a} {cs = rest} {as′ = more} q w) = yes-and (acceptedAsk a) (all acceptedAsk more) (asks-accepted c a q) (tells-accepted rest more w)
 tells-accepted cs as′ (passed {cs = rest} q w) = tells-accepted rest as′ w
 
-all-accepted : (cs : List Call) (as′ : List Ask) → AllAsk cs as′ → Accepted as′
-unfolding all
-all-accepted cs as′ AllAsk.no-more = tt
-all-accepted cs as′ (and-then {c} {a} {cs = rest} {as′ = more} q w) = yes-and (acceptedAsk a) (all acceptedAsk more) (asks-accepted c a q) (all-accepted rest more w)
-
 pub code-replies-are-told : CodeRepliesAreTold
 code-replies-are-told t fresh cs as′ w =
     let g = fresh-begun t fresh in
-    replies-are-answers cs as′ w t (g .1) ∙ ap (answers as′) (g .0) ∙ replies-are-told as′ (all-accepted cs as′ w)
+    replies-are-answers cs as′ w t (g .1) ∙ ap (λ (s : Machine Memory). withRefusals w (answers as′ s)) (g .0) ∙ ap (withRefusals w) (replies-are-told as′ (tells-accepted cs as′ w))

@@ -143,4 +143,4 @@ calls-tell (c ∷ cs) (l, ls) = go (told c l) (calls-tell cs ls)
     go (refuses n q) (as′, w) = (as′, passed q w)
 
 pub any-calls : AnyCalls
-any-calls t fresh cs l = let (as′, w) = calls-tell cs l in (as′, record { first = t; fresh = fresh; calls = cs; tell = w; left = refl })
+any-calls t fresh cs l = let (as′, w) = calls-tell cs l in (as′, w, record { first = t; fresh = fresh; calls = cs; tell = w; left = refl })

@@ -14,7 +14,7 @@ use Rattle.memory.specs.Memory.{Memory}
 use Rattle.memory.specs.Tables.{State, every, soundOf}
 use Rattle.machine.specs.Sound.{all}
 use Rattle.machine.specs.Accepted.{given}
-use Rattle.machine.specs.Asks.{Ask, toAllocate, toWrite, toRead, toStart, toStep, toRun, toList, Reply, Turn, turn}
+use Rattle.machine.specs.Asks.{Ask, toAllocate, toWrite, toRead, toStart, toStep, toRun, toList, Reply, refusal, Turn, turn}
 use Rattle.machine.specs.Sequence.{badChar}
 use Rattle.instruction.specs.Variables.{found}
 use Rattle.instruction.specs.declared.variables.Found.{Found}
@@ -116,13 +116,15 @@ unfoldable pub leftBy : List Call → State → State
 leftBy [] t = t
 leftBy (c ∷ cs) t = leftBy cs (call c t .left)
 
--- what they ask, in order
-pub data AllAsk : List Call → List Ask → Type 0 where
-  no-more : AllAsk [] []
-  and-then : {c : Call} {a : Ask} {cs : List Call} {as′ : List Ask} → Asks c a → AllAsk cs as′ → AllAsk (c ∷ cs) (a ∷ as′)
-
--- the same, where images may be refused in between
+-- what they ask, in order, where images may be refused in between
 pub data Tells : List Call → List Ask → Type 0 where
   no-more : Tells [] []
   asked : {c : Call} {a : Ask} {cs : List Call} {as′ : List Ask} → Asks c a → Tells cs as′ → Tells (c ∷ cs) (a ∷ as′)
   passed : {c : Call} {n : ℕ} {cs : List Call} {as′ : List Ask} → Refuses c n → Tells cs as′ → Tells (c ∷ cs) as′
+
+-- the replies to what they ask, and where an image was refused, that refusal
+unfoldable pub withRefusals : {cs : List Call} {as′ : List Ask} → Tells cs as′ → List Reply → List Reply
+withRefusals no-more rs = []
+withRefusals (asked q w) [] = []  -- never: each ask has its reply
+withRefusals (asked q w) (r ∷ rs) = r ∷ withRefusals w rs
+withRefusals (passed {n} q w) rs = refusal n ∷ withRefusals w rs

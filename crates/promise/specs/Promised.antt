@@ -19,7 +19,7 @@ use Rattle.machine.specs.Demand.{tells, stateAfter, Right, Why}
 use Rattle.eval.specs.Host.{hostListed}
 use Rattle.eval.specs.Entry.{readEntered}
 use Rattle.agree.specs.Seen.{seen, room}
-use Rattle.promise.specs.Calls.{Call, callRead, callWrite, callList, call, heard, shown, Good, Asks, Refuses, AllLent, AllAsk, Tells, heardBy, leftBy}
+use Rattle.promise.specs.Calls.{Call, callRead, callWrite, callList, call, heard, shown, Good, Asks, Refuses, AllLent, Tells, withRefusals, heardBy, leftBy}
 use Rattle.image.specs.Limits.{AreBytes}
 
 -- ---- one call
@@ -53,11 +53,11 @@ SlicesStay = (l f a o : List ℕ) (t : State) (n : ℕ) → call (callList l f a
 
 -- ---- any calls, in any order
 
--- the replies are the machine's
+-- the replies are the machine's, and where an image was refused, that refusal
 abbrev pub RepliesAreAnswers : Type 0
-RepliesAreAnswers = (cs : List Call) (as′ : List Ask) → AllAsk cs as′ → (t : State) → Good t → heardBy cs t ≡ answers as′ (seen t)
+RepliesAreAnswers = (cs : List Call) (as′ : List Ask) (w : Tells cs as′) (t : State) → Good t → heardBy cs t ≡ withRefusals w (answers as′ (seen t))
 
--- and so is the state that is left, also where images were refused in between
+-- and the state that is left is the machine's
 pub record Follows (cs : List Call) (as′ : List Ask) (t : State) : Type 0 where
   pub same : seen (leftBy cs t) ≡ onwards as′ (seen t)
   pub good : Good (leftBy cs t)
@@ -84,17 +84,17 @@ pub record After (as′ : List Ask) (t : State) : Type 0 where
   pub tell : Tells calls as′
   pub left : leftBy calls first ≡ t
 
--- any calls on fresh tables are such
+-- any calls on fresh tables tell some asks, and leave a state after them
 abbrev pub AnyCalls : Type 0
-AnyCalls = (t : State) → Begun t → (cs : List Call) → AllLent cs → (as′ : List Ask) × After as′ (leftBy cs t)
+AnyCalls = (t : State) → Begun t → (cs : List Call) → AllLent cs → (as′ : List Ask) × Tells cs as′ × After as′ (leftBy cs t)
 
 -- the believed machine after them is what the host sees, and the host may go on
 abbrev pub FreshFollows : Type 0
 FreshFollows = (as′ : List Ask) (t : State) → After as′ t → (seen t ≡ stateAfter as′) × Good t
 
--- every reply is the one that the sequence tells
+-- every reply is the one that the sequence tells, or the refusal of an image
 abbrev pub CodeRepliesAreTold : Type 0
-CodeRepliesAreTold = (t : State) → Begun t → (cs : List Call) (as′ : List Ask) → AllAsk cs as′ → heardBy cs t ≡ replies recalled as′ (Machine.fresh recalled)
+CodeRepliesAreTold = (t : State) → Begun t → (cs : List Call) (as′ : List Ask) (w : Tells cs as′) → heardBy cs t ≡ withRefusals w (replies recalled as′ (Machine.fresh recalled))
 
 -- ---- demand 3, of the code: `as′` is what was asked so far, `t` the registers and tables that the host holds
 
