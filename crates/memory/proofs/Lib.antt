@@ -14,6 +14,7 @@ pub mod Last
 pub mod Laws
 pub mod Listing
 pub mod Lists
+pub mod Placed
 pub mod Pointers
 pub mod Stored
 pub mod Tab
