@@ -1,30 +1,35 @@
 -- Demand 3. After any accepted asks the memory and the history are alike (`Sim`), so what is replied is what the history tells; each theorem then
 -- reads off what `told` is, check by check.
-use Prim.Native.Nat.{ℕ, _+_, _%_, _≤_, _<_, _∣_}
+use Prim.Native.Nat.{ℕ, zero, suc, _+_, _%_, _≤_, _<_, _∣_}
 use native.Mathlib.Nat.{dvd-iff-mod-eq-zero}
 use native.Mathlib.Decide.{decLe, decLt, ℕ-discrete}
 use native.Mathlib.Omega.{arith}
-use mathlib.Core.Bool.{Bool, true, false}
+use mathlib.Core.Bool.{Bool, true, false, not, _&&_}
 use mathlib.Core.Logic.{_≢_, _⊎_, inl, inr}
-use mathlib.Core.Path.{_≡_, refl, sym, ap, _∙_, subst, subst₂}
-use mathlib.Core.List.{List, [], _++_}
+use mathlib.Core.Path.{_≡_, refl, sym, ap, ap₂, _∙_, subst, subst₂}
+use mathlib.Core.List.{List, [], _∷_, _++_, map}
+use mathlib.Core.Option.{some}
 use lib.ListN.{length, getD, take, set, length-map}
 use lib.Seq.{getD-set-same, getD-set-other}
-use lib.Dec.{T, ltb, leb, eqb→eq, ltb→lt, leb→le, lt→ltb, le→leb}
-use Rattle.value.specs.Refusal.{notGivenOut, frameGone, beyondLength, misaligned, noConstant, shortTable}
-use Rattle.value.specs.Answer.{Answer, ok, refused, need}
+use lib.Dec.{T, ltb, leb, eqb, eqb-refl, eqb→eq, ltb→lt, leb→le, lt→ltb, le→leb}
+use Rattle.value.specs.Refusal.{notGivenOut, frameGone, beyondLength, misaligned, notBool, noConstant, shortTable, idle}
+use Rattle.value.specs.Answer.{Answer, ok, refused, need, found, _>>=_}
+use Rattle.value.specs.Value.{Value, value, IrType, kindOf, size, same, bool, leNumber, fromBytes}
+use Rattle.value.proofs.Truth.{is-true}
 use Rattle.image.specs.Program.{Program}
-use Rattle.memory.specs.Memory.{Memory, Pointer, constant, local, divides, stands, frameAt, pointerAt, access, readAt, readBytes, writeAt, writeBytes, readConstant}
+use Rattle.memory.specs.Memory.{Memory, Frame, Pointer, constant, sum, local, divides, stands, frameAt, bytesAt, pointerAt, access, readAt, readBytes, writeAt, writeBytes, readConstant}
 use Rattle.memory.specs.Live.{Live}
-use Rattle.machine.specs.Machine.{Machine, fresh, hostRead, hostList}
+use Rattle.machine.specs.Machine.{Machine, Stepped, fresh, hostRead, hostList, onward, sets, execute, step, stepOnce}
 use Rattle.machine.specs.Believed.{believed}
 use Rattle.machine.specs.Accepted.{acceptedAsk}
-use Rattle.machine.specs.Asks.{Ask, toRead, toList, Reply, bytes, refusal, Turn, shows, lays, ask}
+use Rattle.machine.specs.Asks.{Ask, toRead, toStep, toList, Reply, done, bytes, refusal, Turn, shows, steps, lays, ask}
 use Rattle.machine.specs.History.{History, Made, Target, ofConstant, ofPlace, madeIn, nothing, madeAt, storedIn, storedAt, targetOf, among, bytesFrom, told, toldAt, withMade, StandsFor, Open, Ended}
-use Rattle.machine.specs.Flat.{Lives}
-use Rattle.machine.specs.Demand.{Accepted, stateAfter, tells, reply, RepliesAreTold, AlwaysSound, Right, of-constant, of-place, GrantedExactlyWhenRight, BytesAreLastStored, BytesOfConstants, Why, never-given, ended, too-long, uneven, not-here, past-constant, RefusedWithItsNumber, GoneExactlyWhenEnded, ExtentsApart, WritesStayApart, ListingIsTold, RefusedEverAfter}
-use Rattle.machine.proofs.Agree.{Sim, Home, Homed, forget, find, need-yes, length-first, getD-first, read-agrees, target-at, same-length, stands-among, write-agrees}
-use Rattle.machine.proofs.Apart.{apart}
+use Rattle.machine.specs.Flat.{sizesIn, indexOf, placeOf, Before}
+use Rattle.machine.specs.Demand.{Accepted, stateAfter, tells, reply, RepliesAreTold, AlwaysSound, Right, of-constant, of-place, GrantedExactlyWhenRight, BytesAreLastStored, BytesOfConstants, Why, never-given, ended, too-long, uneven, not-here, past-constant, RefusedWithItsNumber, GoneExactlyWhenEnded, Alive, ExtentsApart, WritesStayApart, ListingIsTold, AtRead, AtCopy, stepped, StepsGrantedExactlyWhenRight, StepsReadLastStored, CopiesRefused, CopiesLastStored, RefusedEverAfter}
+use Rattle.machine.proofs.Agree.{Sim, ids, contents, Home, Homed, forget, find, need-yes, length-contents, length-first, getD-first, read-agrees, bytes-at, target-at, same-length, stands-among, write-agrees}
+use Rattle.machine.proofs.Apart.{startAt, Lives, Ahead, apart}
+use Rattle.machine.proofs.Flat.{start-at}
+use Rattle.machine.proofs.Flat as Flat
 use Rattle.machine.proofs.Lift.{replies-alike, fresh-alike, following-alike, memories-alike}
 use Rattle.machine.proofs.Recalled.{likened, list-agrees}
 use Rattle.machine.proofs.SoundMemory.{Later}
@@ -179,6 +184,27 @@ module _ (h : History) (P : Program) (p n : ℕ) where
   gone (not-here s a) e = absurd (omega arith)
   gone (past-constant s a b) e = absurd (omega arith)
 
+  -- 31 is none of them
+  not-31 : {k : ℕ} → Why h P p n k → k ≢ notBool
+  not-31 (never-given l) e = absurd (omega arith)
+  not-31 (ended s a) e = absurd (omega arith)
+  not-31 (too-long s a b) e = absurd (omega arith)
+  not-31 (uneven s a b c) e = absurd (omega arith)
+  not-31 (not-here s a) e = absurd (omega arith)
+  not-31 (past-constant s a b) e = absurd (omega arith)
+
+  right-or-why : Right h P p n ⊎ ((k : ℕ) × Why h P p n k)
+  right-or-why = go (told (P .constants) h p n) tells-what
+    where
+      go : (a : Answer (List ℕ)) → Tells a → Right h P p n ⊎ ((k : ℕ) × Why h P p n k)
+      go (ok bs) (grants r e) = inl r
+      go (refused k) (refuses w) = inr (k, w)
+
+  right-bytes : {t : Target} → Right h P p n → StandsFor h p t → told (P .constants) h p n ≡ ok (bytesOf t)
+  right-bytes r s =
+      let g = right-told r in
+      g .1 ∙ ap ok (of-ok (subst Tells (g .1) tells-what) .1 ∙ ap bytesOf (s .1))
+
 -- ---- 1, 2 and 3
 
 module _ (as′ : List Ask) (t : Accepted as′) (P : Program) (p n : ℕ) where
@@ -218,18 +244,62 @@ gone-exactly-when-ended as′ t P p n =
 
 -- ---- 4. apart
 
+-- sums over the lowest frames of a stack, and over their names
+sums-below : (F : Frame → ℕ) (G : ℕ → ℕ) (fs : List Frame) (n : ℕ) → ((i : ℕ) → i < length fs → F (frameAt fs i) ≡ G (frameAt fs i .id))
+    → sum (map F (take n fs)) ≡ sum (map G (take n (ids fs)))
+unfolding sum
+sums-below F G fs zero e = refl
+sums-below F G [] (suc n) e = refl
+sums-below F G (f ∷ fs) (suc n) e = ap₂ _+_ (e 0 (omega arith)) (sums-below F G fs n (λ i l. e (suc i) (omega arith)))
+
+lengths : (as′ : List Made) → map length (map contents as′) ≡ map (λ (a : Made). a .size) as′
+lengths [] = refl
+lengths (a ∷ as′) = ap₂ (λ (n : ℕ) (l : List ℕ). n ∷ l) (length-contents a) (lengths as′)
+
 module _ {m : Memory} {h : History} (s : Sim m h) where
   -- where a frame that has not ended stands
-  index-of : (f : ℕ) → Open h f → (getD (h .below) f 0 < length (m .frames)) × (frameAt (m .frames) (getD (h .below) f 0) .id ≡ f)
+  index-of : (f : ℕ) → Open h f → (indexOf h f < length (m .frames)) × (frameAt (m .frames) (indexOf h f) .id ≡ f)
   index-of f t =
       let k = find (m .frames) f (rw (s .stack) at t) in
       let e : getD (h .below) f 0 ≡ k .0 = ap (λ (x : ℕ). getD (h .below) x 0) (sym (k .2)) ∙ s .level (k .0) (k .1) in
       (rw e (k .1), rw e (k .2))
 
-  lives : (f j : ℕ) → Open h f → j < length (madeIn (h .made) f) → Lives (m .frames) (getD (h .below) f 0) j
-  lives f j t l =
+  pub lives : (f j : ℕ) → Alive h f j → Lives (m .frames) (indexOf h f) j
+  lives f j (t, l) =
       let k = index-of f t in
-      record { frame = k .0; allocation = rw (s .holds (getD (h .below) f 0) (k .0), length-map, k .1) l }
+      record { frame = k .0; allocation = rw (s .holds (indexOf h f) (k .0), length-map, k .1) l }
+
+  allocations-of : (f : ℕ) → Open h f → map length (frameAt (m .frames) (indexOf h f) .allocations) ≡ sizesIn h f
+  allocations-of f t =
+      let k = index-of f t in
+      ap (map length) (s .holds (indexOf h f) (k .0) ∙ ap (λ (x : ℕ). map contents (madeIn (h .made) x)) (k .1)) ∙ lengths (madeIn (h .made) f)
+
+  -- it lies where the sequence tells
+  pub lives-at : (f j : ℕ) → Alive h f j → startAt (m .frames) (indexOf h f) j ≡ placeOf h f j
+  unfolding placeOf
+  lives-at f j a =
+      let i = indexOf h f in
+      let v = lives f j a in
+      let here = v .allocation in
+      start-at (m .frames) i j (v .frame) (omega arith)
+      ∙ ap₂ _+_
+      (sums-below Flat.bytesOf (λ (g : ℕ). sum (sizesIn h g)) (m .frames) i (λ k l. ap (λ (bss : List (List ℕ)). sum (map length bss)) (s .holds k l) ∙ ap sum (lengths (madeIn (h .made) (frameAt (m .frames) k .id))))
+      ∙ ap (λ (l : List ℕ). sum (map (λ (g : ℕ). sum (sizesIn h g)) (take i l))) (sym (s .stack)))
+      (ap (λ (l : List ℕ). sum (take j l)) (allocations-of f (a .0)))
+
+  -- it is as long as the sequence tells
+  pub lives-long : (f j : ℕ) → Alive h f j → length (bytesAt (m .frames) (indexOf h f) j) ≡ madeAt (h .made) f j .size
+  lives-long f j (t, l) =
+      let k = index-of f t in
+      let home : Home (m .frames) (h .made) (indexOf h f) f j = record { begun = subst (λ (x : ℕ). x < length (h .made)) (k .1) (s .begun (indexOf h f) (k .0)); made = l; there = λ u. k } in
+      ap length (bytes-at s (indexOf h f) f j home t) ∙ length-contents (madeAt (h .made) f j)
+
+  before : (f j f′ j′ : ℕ) → Alive h f j → Alive h f′ j′ → Ahead (m .frames) (indexOf h f) j (indexOf h f′) j′ → Before h f j f′ j′
+  before f j f′ j′ a a′ b =
+      let x = lives-at f j a in
+      let y = lives-at f′ j′ a′ in
+      let z = lives-long f j a in
+      omega arith
 
   -- a local pointer, by what it stands for
   home-of : {p f j o : ℕ} → StandsFor h p (ofPlace f j o) → (i : ℕ) × (pointerAt m p ≡ local i f j o) × Home (m .frames) (h .made) i f j
@@ -246,12 +316,13 @@ module _ {m : Memory} {h : History} (s : Sim m h) where
           (i, e ∙ rw (ef, ej, eo), subst₂ (λ (a b : ℕ). Home (m .frames) (h .made) i a b) ef ej home)
 
 pub extents-apart : ExtentsApart
-extents-apart as′ t f j f′ j′ a a′ l l′ d =
+extents-apart as′ t f j f′ j′ a a′ d =
     let s = agrees as′ t in
-    let k = index-of s f a in
-    let k′ = index-of s f′ a′ in
-    apart _ _ j _ j′ (lives s f j a l) (lives s f′ j′ a′ l′)
-    (elim d [ inl x ↦ inl (λ e. x (sym (k .1) ∙ ap (λ (i : ℕ). frameAt (stateAfter as′ .memory .frames) i .id) e ∙ k′ .1)) | inr y ↦ inr y ])
+    let k = index-of s f (a .0) in
+    let k′ = index-of s f′ (a′ .0) in
+    let d′ : (indexOf (tells as′) f ≢ indexOf (tells as′) f′) ⊎ (j ≢ j′) =
+    elim d [ inl x ↦ inl (λ e. x (sym (k .1) ∙ ap (λ (i : ℕ). frameAt (stateAfter as′ .memory .frames) i .id) e ∙ k′ .1)) | inr y ↦ inr y ] in
+    elim (apart _ _ j _ j′ (lives s f j a) (lives s f′ j′ a′) d′) [ inl b ↦ inl (before s f j f′ j′ a a′ b) | inr b ↦ inr (before s f′ j′ f j a′ a b) ]
 
 -- another allocation is as it was
 other-made : (ms : List (List Made)) (f j f′ j′ : ℕ) (a : Made) → f < length ms → (f ≢ f′) ⊎ (j ≢ j′) → madeAt (set ms f (set (madeIn ms f) j a)) f′ j′ ≡ madeAt ms f′ j′
@@ -288,6 +359,128 @@ listing-is-told as′ t room l =
     ap (λ (x : Turn Memory). x .reply) (entered (toList room) (stateAfter as′) (always-sound as′ t))
     ∙ ap (λ (a : Answer (List Live)). lays (stateAfter as′) a .reply)
     (need-yes (leb (length (stateAfter as′ .memory .pointers)) room) shortTable _ (le→leb _ room (rw (← same-length s) l)) ∙ ap ok (list-agrees s))
+
+-- ---- 6. a step reads as the host does
+
+-- what a step at a Read comes to, by the bytes that are read; and one at a Copy
+step-read : (s : Machine Memory) (P : Program) (to : ℕ) (type : IrType) (p : ℕ) → AtRead s P to type p → (a : Answer (List ℕ)) → readBytes (P .constants) (s .memory) p (size (kindOf type)) ≡ a
+    → step believed P s ≡ (a >>= λ bs. fromBytes type bs >>= λ v. sets believed s to v)
+unfolding step found _>>=_ execute
+step-read s P to type p r a e = rw (r .here, r .through, e) refl
+
+step-copy : (s : Machine Memory) (P : Program) (q p n : ℕ) → AtCopy s P q p n → (a : Answer (List ℕ)) → readBytes (P .constants) (s .memory) p n ≡ a
+    → step believed P s ≡ (a >>= λ bs. writeBytes (s .memory) q bs >>= λ m. onward believed s m (s .vars))
+unfolding step found _>>=_ execute
+step-copy s P q p n c a e = rw (c .here, c .onto, c .through, e) refl
+
+-- a step of a machine that runs is entered
+step-entered : (as′ : List Ask) → Accepted as′ → (P : Program) → T (stateAfter as′ .running) → (a : Answer (Stepped Memory)) → step believed P (stateAfter as′) ≡ a
+    → stepped as′ P ≡ steps (stateAfter as′) a
+unfolding ask stepOnce
+step-entered as′ t P r a e = entered (toStep P) (stateAfter as′) (always-sound as′ t) ∙ ap (steps (stateAfter as′)) (need-yes (stateAfter as′ .running) idle _ r ∙ e)
+
+done-not : {k : ℕ} → done ≡ refusal k → ⊥
+done-not e = let z : _≡_ {A = ℕ} 0 1 = cc in omega arith
+
+-- once its bytes are read, a Read is refused with 31 alone
+value-31 : (s : Machine Memory) (to : ℕ) (type : IrType) (bs : List ℕ) (k : ℕ) → steps s (fromBytes type bs >>= λ v. sets believed s to v) .reply ≡ refusal k → k ≡ notBool
+unfolding fromBytes need steps _>>=_
+value-31 s to type bs k e = go (not (same (kindOf type) bool && ltb 1 (leNumber bs))) (value (kindOf type) (leNumber bs)) e
+  where
+    go : (b : Bool) (v : Value) → steps s (need b notBool (ok v) >>= λ v. sets believed s to v) .reply ≡ refusal k → k ≡ notBool
+    go true v e = let z : _≡_ {A = ℕ} 0 1 = cc in absurd (omega arith)
+    go false v e = cc
+
+value-set : (s : Machine Memory) (to : ℕ) (type : IrType) (bs : List ℕ) → steps s (fromBytes type bs >>= λ v. sets believed s to v) .reply ≡ done
+    → (v : Value) × (fromBytes type bs ≡ ok v) × (steps s (fromBytes type bs >>= λ v. sets believed s to v) .machine .vars to ≡ some v)
+unfolding steps _>>=_
+value-set s to type bs d = go (fromBytes type bs) refl d
+  where
+    go : (a : Answer Value) → fromBytes type bs ≡ a → steps s (a >>= λ v. sets believed s to v) .reply ≡ done
+        → (v : Value) × (fromBytes type bs ≡ ok v) × (steps s (a >>= λ v. sets believed s to v) .machine .vars to ≡ some v)
+    go (ok v) e d = (v, e, rw (is-true (eqb to to) (eqb-refl to)))
+    go (refused k) e d = absurd (done-not (sym d))
+
+copy-written : (s : Machine Memory) (q : ℕ) (bs : List ℕ) → steps s (writeBytes (s .memory) q bs >>= λ m. onward believed s m (s .vars)) .reply ≡ done
+    → writeBytes (s .memory) q bs ≡ ok (steps s (writeBytes (s .memory) q bs >>= λ m. onward believed s m (s .vars)) .machine .memory)
+unfolding steps _>>=_
+copy-written s q bs d = go (writeBytes (s .memory) q bs) d
+  where
+    go : (a : Answer Memory) → steps s (a >>= λ m. onward believed s m (s .vars)) .reply ≡ done → a ≡ ok (steps s (a >>= λ m. onward believed s m (s .vars)) .machine .memory)
+    go (ok m) d = refl
+    go (refused k) d = absurd (done-not (sym d))
+
+module _ (as′ : List Ask) (t : Accepted as′) (P : Program) (to : ℕ) (type : IrType) (p : ℕ) (r : AtRead (stateAfter as′) P to type p) where
+  abbrev n : ℕ
+  n = size (kindOf type)
+
+  -- by what is told
+  read-turn : (a : Answer (List ℕ)) → told (P .constants) (tells as′) p n ≡ a
+      → stepped as′ P ≡ steps (stateAfter as′) (a >>= λ bs. fromBytes type bs >>= λ v. sets believed (stateAfter as′) to v)
+  read-turn a e = step-entered as′ t P (r .runs) _ (step-read (stateAfter as′) P to type p r a (read-agrees (agrees as′ t) (P .constants) p n ∙ e))
+
+  read-refused : {k : ℕ} → Why (tells as′) P p n k → stepped as′ P .reply ≡ refusal k
+  unfolding steps _>>=_
+  read-refused {k} w = ap (λ (x : Turn Memory). x .reply) (read-turn (refused k) (why-told (tells as′) P p n w))
+
+  read-granted : Right (tells as′) P p n → (k : ℕ) → stepped as′ P .reply ≡ refusal k → k ≡ notBool
+  unfolding _>>=_
+  read-granted g k e =
+      let x = right-told (tells as′) P p n g in
+      value-31 (stateAfter as′) to type (x .0) k (sym (ap (λ (x : Turn Memory). x .reply) (read-turn (ok (x .0)) (x .1))) ∙ e)
+
+  granted-right : ((k : ℕ) → stepped as′ P .reply ≡ refusal k → k ≡ notBool) → Right (tells as′) P p n
+  granted-right f = elim (right-or-why (tells as′) P p n) [ inl g ↦ g | inr w ↦ absurd (not-31 (tells as′) P p n (w .1) (f (w .0) (read-refused (w .1)))) ]
+
+  number-why : (k : ℕ) → k ≢ notBool → stepped as′ P .reply ≡ refusal k → Why (tells as′) P p n k
+  number-why k d e = elim (right-or-why (tells as′) P p n) [
+    | inl g ↦ absurd (d (read-granted g k e))
+    | inr w ↦ subst (Why (tells as′) P p n) (same-number (w .0) k (sym (read-refused (w .1)) ∙ e)) (w .1)
+  ]
+    where
+      same-number : (i k : ℕ) → refusal i ≡ refusal k → i ≡ k
+      same-number i k e = cc
+
+  read-value : {f j o : ℕ} → StandsFor (tells as′) p (ofPlace f j o) → stepped as′ P .reply ≡ done
+      → (v : Value) × (fromBytes type (bytesFrom (madeAt (tells as′ .made) f j) o n) ≡ ok v) × (stepped as′ P .machine .vars to ≡ some v)
+  unfolding bytesOf _>>=_
+  read-value at d =
+      let g = granted-right (λ k e. absurd (done-not (sym d ∙ e))) in
+      let turn = read-turn (ok _) (right-bytes (tells as′) P p n g at) in
+      let x = value-set (stateAfter as′) to type _ (sym (ap (λ (x : Turn Memory). x .reply) turn) ∙ d) in
+      (x .0, x .1, ap (λ (x : Turn Memory). x .machine .vars to) turn ∙ x .2)
+
+pub steps-granted-exactly-when-right : StepsGrantedExactlyWhenRight
+steps-granted-exactly-when-right as′ t P to type p r =
+    ((granted-right as′ t P to type p r, read-granted as′ t P to type p r), (λ k d. (number-why as′ t P to type p r k d, λ w. read-refused as′ t P to type p r w)))
+
+pub steps-read-last-stored : StepsReadLastStored
+steps-read-last-stored as′ t P to type p f j o r at d = read-value as′ t P to type p r at d
+
+module _ (as′ : List Ask) (t : Accepted as′) (P : Program) (q p n : ℕ) (c : AtCopy (stateAfter as′) P q p n) where
+  copy-turn : (a : Answer (List ℕ)) → told (P .constants) (tells as′) p n ≡ a
+      → stepped as′ P ≡ steps (stateAfter as′) (a >>= λ bs. writeBytes (stateAfter as′ .memory) q bs >>= λ m. onward believed (stateAfter as′) m (stateAfter as′ .vars))
+  copy-turn a e = step-entered as′ t P (c .runs) _ (step-copy (stateAfter as′) P q p n c a (read-agrees (agrees as′ t) (P .constants) p n ∙ e))
+
+  copy-refused : {k : ℕ} → Why (tells as′) P p n k → stepped as′ P .reply ≡ refusal k
+  unfolding steps _>>=_
+  copy-refused {k} w = ap (λ (x : Turn Memory). x .reply) (copy-turn (refused k) (why-told (tells as′) P p n w))
+
+  copy-right : stepped as′ P .reply ≡ done → Right (tells as′) P p n
+  copy-right d = elim (right-or-why (tells as′) P p n) [ inl g ↦ g | inr w ↦ absurd (done-not (sym d ∙ copy-refused (w .1))) ]
+
+  copy-bytes : {f j o : ℕ} → StandsFor (tells as′) p (ofPlace f j o) → stepped as′ P .reply ≡ done
+      → writeBytes (stateAfter as′ .memory) q (bytesFrom (madeAt (tells as′ .made) f j) o n) ≡ ok (stepped as′ P .machine .memory)
+  unfolding bytesOf _>>=_
+  copy-bytes at d =
+      let turn = copy-turn (ok _) (right-bytes (tells as′) P p n (copy-right d) at) in
+      copy-written (stateAfter as′) q _ (sym (ap (λ (x : Turn Memory). x .reply) turn) ∙ d) ∙ ap (λ (x : Turn Memory). ok (x .machine .memory)) (sym turn)
+
+pub copies-refused : CopiesRefused
+copies-refused as′ t P q p n k c w = copy-refused as′ t P q p n c w
+
+pub copies-last-stored : CopiesLastStored
+copies-last-stored as′ t P q p n f j o c at d = copy-bytes as′ t P q p n c at d
 
 -- ---- in plain words
 

@@ -2,6 +2,7 @@ pub mod Agree
 pub mod Lift
 pub mod Recalled
 pub mod Apart
+pub mod Flat
 pub mod Cases
 pub mod Count
 pub mod Initialize

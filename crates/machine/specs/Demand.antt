@@ -1,22 +1,27 @@
--- Demand 3: what a sequence of asks tells of every later read, write and listing. A sequence is any list of host allocations, host writes, host reads,
--- starts, steps, runs and listings, each with any accepted program, from fresh memory on. A refused ask changes nothing.
+-- Demand 3: "After any sequence of accepted allocations, host writes, starts, steps and reads since fresh memory, under any programs: a host read through a
+-- local pointer is granted exactly when the frame in which its allocation was made has not returned, offset plus size is within the allocation, and size divides
+-- offset (size 0: only offset 0); each byte granted is the one last stored there, or zero. Frames and stores are told from the sequence itself, not from the
+-- machine's ids or store. Live allocations never share a byte. The live list names exactly the local pointers whose frame has not returned."
+-- A sequence is any list of asks, each with any accepted program, from fresh memory on: also runs, listings, and asks that are refused and so change nothing.
 use Prim.Native.Nat.{ℕ, _+_, _≤_, _<_, _∣_}
 use mathlib.Core.Logic.{_≢_, _⊎_, _↔_}
 use mathlib.Core.Path.{_≡_}
 use mathlib.Core.List.{List, [], _++_}
-use lib.ListN.{length, getD, take}
+use mathlib.Core.Option.{some}
+use lib.ListN.{length, getD, take, getElem?}
 use lib.Dec.{T}
-use Rattle.value.specs.Refusal.{notGivenOut, frameGone, beyondLength, misaligned, noConstant}
+use Rattle.value.specs.Refusal.{notGivenOut, frameGone, beyondLength, misaligned, notBool, noConstant}
 use Rattle.value.specs.Answer.{ok, refused}
-use Rattle.image.specs.Program.{Program}
+use Rattle.value.specs.Value.{Value, IrType, kindOf, size, fromBytes}
+use Rattle.image.specs.Program.{Program, Operand, code, Read, Copy}
 use Rattle.memory.specs.Memory.{Memory, readBytes, writeBytes}
-use Rattle.machine.specs.Machine.{Machine, fresh}
+use Rattle.machine.specs.Machine.{Machine, fresh, pointerOf}
 use Rattle.machine.specs.Believed.{believed}
 use Rattle.machine.specs.Sound.{all, sound}
 use Rattle.machine.specs.Accepted.{acceptedAsk}
-use Rattle.machine.specs.Asks.{Ask, toRead, toList, Reply, bytes, lists, refusal, replies, following}
+use Rattle.machine.specs.Asks.{Ask, toRead, toStep, toList, Reply, done, bytes, lists, refusal, Turn, replies, following}
 use Rattle.machine.specs.Entries.{enter, answers, onwards}
-use Rattle.machine.specs.History.{History, ofConstant, ofPlace, madeIn, madeAt, StandsFor, Open, Ended, toldList}
+use Rattle.machine.specs.History.{History, ofConstant, ofPlace, madeIn, madeAt, bytesFrom, StandsFor, Open, Ended, toldList}
 use Rattle.machine.specs.Recalled.{recalled}
 use Rattle.machine.specs.Flat.{Before}
 
@@ -46,8 +51,8 @@ AlwaysSound = (as′ : List Ask) → Accepted as′ → T (sound (stateAfter as�
 
 -- ---- 1. which reads are granted
 
--- "the pointer is a constant's and 01 grants it, or it is local and its allocation's frame has not ended, offset plus size is within the allocation
--- and size divides offset (size 0: only at offset 0)"
+-- of a local pointer "the frame in which its allocation was made has not returned, offset plus size is within the allocation, and size divides offset";
+-- of a constant's, the constant is in the program and as long
 pub data Right (h : History) (P : Program) (p n : ℕ) : Type 0 where
   of-constant : {k : ℕ} → StandsFor h p (ofConstant k) → k < length (P .constants) → n ≤ length (getD (P .constants) k []) → Right h P p n
   of-place : {f j o : ℕ} → StandsFor h p (ofPlace f j o) → Open h f → o + n ≤ madeAt (h .made) f j .size → n ∣ o → Right h P p n
@@ -57,7 +62,7 @@ GrantedExactlyWhenRight = (as′ : List Ask) → Accepted as′ → (P : Program
 
 -- ---- 2. with which bytes
 
--- "each byte granted is the one last stored at that place of that allocation, or zero"
+-- "each byte granted is the one last stored there, or zero"
 abbrev pub BytesAreLastStored : Type 0
 BytesAreLastStored = (as′ : List Ask) → Accepted as′ → (P : Program) (p n f j o : ℕ) (bs : List ℕ) → StandsFor (tells as′) p (ofPlace f j o) → reply as′ P p n ≡ bytes bs
     → (length bs ≡ n) × ((i : ℕ) → i < n → getD bs i 0 ≡ madeAt (tells as′ .made) f j .byte (o + i))
@@ -80,21 +85,23 @@ pub data Why (h : History) (P : Program) (p n : ℕ) : (number : ℕ) → Type 0
 abbrev pub RefusedWithItsNumber : Type 0
 RefusedWithItsNumber = (as′ : List Ask) → Accepted as′ → (P : Program) (p n k : ℕ) → (reply as′ P p n ≡ refusal k) ↔ Why (tells as′) P p n k
 
--- "27 exactly where the frame has ended"
+-- 27 is given exactly where the frame has returned
 abbrev pub GoneExactlyWhenEnded : Type 0
 GoneExactlyWhenEnded = (as′ : List Ask) → Accepted as′ → (P : Program) (p n : ℕ)
     → (reply as′ P p n ≡ refusal frameGone) ↔ ((f : ℕ) × (j : ℕ) × (o : ℕ) × StandsFor (tells as′) p (ofPlace f j o) × Ended (tells as′) f)
 
--- ---- 4. live allocations never share a byte of the store
+-- ---- 4. "Live allocations never share a byte."
 
--- the extents lie apart: one ends before the other begins
+-- allocation j of frame f lives: f has not ended, and more than j were made in it
+abbrev pub Alive : History → (frame allocation : ℕ) → Type 0
+Alive h f j = Open h f × (j < length (madeIn (h .made) f))
+
+-- of two that are not the same, one ends before the other begins
 abbrev pub ExtentsApart : Type 0
-ExtentsApart = (as′ : List Ask) → Accepted as′ → (f j f′ j′ : ℕ) → Open (tells as′) f → Open (tells as′) f′
-    → j < length (madeIn (tells as′ .made) f) → j′ < length (madeIn (tells as′ .made) f′) → (f ≢ f′) ⊎ (j ≢ j′)
-    → Before (stateAfter as′ .memory .frames) (getD (tells as′ .below) f 0) j (getD (tells as′ .below) f′ 0) j′
-    ⊎ Before (stateAfter as′ .memory .frames) (getD (tells as′ .below) f′ 0) j′ (getD (tells as′ .below) f 0) j
+ExtentsApart = (as′ : List Ask) → Accepted as′ → (f j f′ j′ : ℕ) → Alive (tells as′) f j → Alive (tells as′) f′ j′ → (f ≢ f′) ⊎ (j ≢ j′)
+    → Before (tells as′) f j f′ j′ ⊎ Before (tells as′) f′ j′ f j
 
--- "an accepted write through one allocation changes no byte that is granted through another", the host's and a step's alike
+-- an accepted write through one allocation changes no byte that is granted through another, the host's and a step's alike
 abbrev pub WritesStayApart : Type 0
 WritesStayApart = (as′ : List Ask) → Accepted as′ → (p q f j o f′ j′ o′ : ℕ) (bs : List ℕ) (m : Memory) → writeBytes (stateAfter as′ .memory) p bs ≡ ok m
     → StandsFor (tells as′) p (ofPlace f j o) → StandsFor (tells as′) q (ofPlace f′ j′ o′) → (f ≢ f′) ⊎ (j ≢ j′)
@@ -102,9 +109,52 @@ WritesStayApart = (as′ : List Ask) → Accepted as′ → (p q f j o f′ j′
 
 -- ---- 5. the live list
 
--- it names exactly the local pointers whose frame has not ended, and shows of each, dead or alive, what the sequence tells
+-- it "names exactly the local pointers whose frame has not returned", and shows of each, dead or alive, what the sequence tells
 abbrev pub ListingIsTold : Type 0
 ListingIsTold = (as′ : List Ask) → Accepted as′ → (room : ℕ) → length (tells as′ .given) ≤ room → enter (toList room) (stateAfter as′) .reply ≡ lists (toldList (tells as′))
+
+-- ---- 6. a step reads as the host does
+
+-- the machine runs, and stands at a Read through the pointer p
+pub record AtRead (s : Machine Memory) (P : Program) (to : ℕ) (type : IrType) (p : ℕ) : Type 0 where
+  pub runs : T (s .running)
+  pub operand : Operand
+  pub here : getElem? (code P) (s .place) ≡ some (Read to operand type)
+  pub through : pointerOf (s .vars) operand ≡ ok p
+
+-- or at a Copy of n bytes from the pointer p to the pointer q
+pub record AtCopy (s : Machine Memory) (P : Program) (q p n : ℕ) : Type 0 where
+  pub runs : T (s .running)
+  pub target : Operand
+  pub source : Operand
+  pub here : getElem? (code P) (s .place) ≡ some (Copy target source n)
+  pub onto : pointerOf (s .vars) target ≡ ok q
+  pub through : pointerOf (s .vars) source ≡ ok p
+
+abbrev pub stepped : List Ask → Program → Turn Memory
+stepped as′ P = enter (toStep P) (stateAfter as′)
+
+-- a Read is refused with no number, or with 31 alone, exactly when the host's read would be granted; every other number is the host's
+abbrev pub StepsGrantedExactlyWhenRight : Type 0
+StepsGrantedExactlyWhenRight = (as′ : List Ask) → Accepted as′ → (P : Program) (to : ℕ) (type : IrType) (p : ℕ) → AtRead (stateAfter as′) P to type p
+    → (((k : ℕ) → stepped as′ P .reply ≡ refusal k → k ≡ notBool) ↔ Right (tells as′) P p (size (kindOf type)))
+    × ((k : ℕ) → k ≢ notBool → (stepped as′ P .reply ≡ refusal k) ↔ Why (tells as′) P p (size (kindOf type)) k)
+
+-- and its value is made of the bytes last stored
+abbrev pub StepsReadLastStored : Type 0
+StepsReadLastStored = (as′ : List Ask) → Accepted as′ → (P : Program) (to : ℕ) (type : IrType) (p f j o : ℕ) → AtRead (stateAfter as′) P to type p
+    → StandsFor (tells as′) p (ofPlace f j o) → stepped as′ P .reply ≡ done
+    → (v : Value) × (fromBytes type (bytesFrom (madeAt (tells as′ .made) f j) o (size (kindOf type))) ≡ ok v) × (stepped as′ P .machine .vars to ≡ some v)
+
+-- a Copy is refused as the host's read would be
+abbrev pub CopiesRefused : Type 0
+CopiesRefused = (as′ : List Ask) → Accepted as′ → (P : Program) (q p n k : ℕ) → AtCopy (stateAfter as′) P q p n → Why (tells as′) P p n k → stepped as′ P .reply ≡ refusal k
+
+-- and writes the bytes last stored
+abbrev pub CopiesLastStored : Type 0
+CopiesLastStored = (as′ : List Ask) → Accepted as′ → (P : Program) (q p n f j o : ℕ) → AtCopy (stateAfter as′) P q p n
+    → StandsFor (tells as′) p (ofPlace f j o) → stepped as′ P .reply ≡ done
+    → writeBytes (stateAfter as′ .memory) q (bytesFrom (madeAt (tells as′ .made) f j) o n) ≡ ok (stepped as′ P .machine .memory)
 
 -- ---- in plain words
 
