@@ -4,5 +4,6 @@ pub mod Untouched
 pub mod Answers
 pub mod Sequence
 pub mod Told
+pub mod Extents
 pub mod Tells
 pub mod Listed

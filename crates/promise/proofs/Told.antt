@@ -6,6 +6,7 @@ use mathlib.Core.List.{List, _++_}
 use lib.ListN.{length}
 use Rattle.value.specs.Answer.{Answer, ok, refused, _>>=_}
 use Rattle.value.specs.Refusal.{frameGone}
+use Rattle.value.specs.Value.{IrType, kindOf, size}
 use Rattle.value.proofs.Truth.{is-true}
 use Rattle.image.specs.Program.{Program}
 use Rattle.memory.specs.Memory.{Memory, readBytes, writeBytes}
@@ -13,16 +14,15 @@ use Rattle.memory.specs.Tables.{State}
 use Rattle.machine.specs.Machine.{Machine, withMemory, hostRead, hostWrite}
 use Rattle.machine.specs.Believed.{believed}
 use Rattle.machine.specs.Sound.{sound}
-use Rattle.machine.specs.Asks.{Ask, toRead, toWrite, toList, done, refusal, changes, shows, ask, Turn}
+use Rattle.machine.specs.Asks.{Ask, toRead, toWrite, toStep, toList, done, refusal, changes, shows, ask, Turn}
 use Rattle.machine.specs.Entries.{enter}
-use Rattle.machine.specs.Demand.{Accepted, stateAfter, reply}
-use Rattle.machine.proofs.Demand.{always-sound, granted-exactly-when-right, bytes-are-last-stored, bytes-of-constants, refused-with-its-number, gone-exactly-when-ended, writes-stay-apart, listing-is-told, refused-ever-after}
-use Rattle.memory.proofs.Bytes.{extents-apart}
+use Rattle.machine.specs.Demand.{Accepted, stateAfter, tells, reply, Why, AtRead, AtCopy, stepped}
+use Rattle.machine.specs.History.{madeAt, bytesFrom}
+use Rattle.machine.proofs.Demand.{always-sound, granted-exactly-when-right, bytes-are-last-stored, bytes-of-constants, refused-with-its-number, gone-exactly-when-ended, writes-stay-apart, listing-is-told, steps-granted-exactly-when-right, steps-read-last-stored, copies-refused, copies-last-stored, refused-ever-after}
 use Rattle.agree.specs.Seen.{seen, room}
-use Rattle.agree.proofs.Steady.{tables-sound}
 use Rattle.agree.proofs.Entries.{asked}
-use Rattle.promise.specs.Calls.{Call, callRead, callWrite, callList, call, shown, Good, Asks, reading, writing, listing}
-use Rattle.promise.specs.Promised.{After, Image, readOf, CodeGrantsExactlyWhenRight, CodeReadsLastStored, CodeReadsConstants, CodeRefusesWithItsNumber, CodeGoneExactlyWhenEnded, CodeExtentsApart, CodeWritesStayApart, CodeListsAsTold, CodeRefusesEverAfter}
+use Rattle.promise.specs.Calls.{Call, callRead, callWrite, callStep, callList, call, shown, Good, Asks, reading, writing, stepping, listing}
+use Rattle.promise.specs.Promised.{After, Image, readOf, CodeGrantsExactlyWhenRight, CodeReadsLastStored, CodeReadsConstants, CodeRefusesWithItsNumber, CodeGoneExactlyWhenEnded, CodeWritesStayApart, CodeListsAsTold, stepOf, CodeStepsGrantExactlyWhenRight, CodeStepsReadLastStored, CodeCopiesRefused, CodeCopiesLastStored, CodeRefusesEverAfter}
 use Rattle.promise.proofs.Answers.{entries-answer}
 use Rattle.promise.proofs.Sequence.{fresh-follows, tells-accepted}
 
@@ -36,7 +36,7 @@ module _ (as′ : List Ask) (t : State) (after : After as′ t) where
   read-same : (s : List ℕ) (P : Program) → Image s P → (p : ℕ) (buffer : List ℕ) → readOf t s p buffer ≡ reply as′ P p (length buffer)
   read-same s P i p buffer = reply-same (callRead s p buffer) (toRead P p (length buffer)) (reading (i .bytes) (i .taken))
 
-  accepted : Accepted as′
+  pub accepted : Accepted as′
   accepted = tells-accepted (after .calls) as′ (after .tell)
 
 pub code-grants-exactly-when-right : CodeGrantsExactlyWhenRight
@@ -58,9 +58,6 @@ code-refuses-with-its-number as′ t after s P i p buffer k =
 pub code-gone-exactly-when-ended : CodeGoneExactlyWhenEnded
 code-gone-exactly-when-ended as′ t after s P i p buffer =
     rw (read-same as′ t after s P i p buffer) (gone-exactly-when-ended as′ (accepted as′ t after) P p (length buffer))
-
-pub code-extents-apart : CodeExtentsApart
-code-extents-apart as′ t after j k lj lk ne = extents-apart (t .memory) (tables-sound t (fresh-follows as′ t after .1 .sound) .0) j k lj lk ne
 
 -- a write that is done is the memory's own
 write-done : (S : Machine Memory) (p : ℕ) (bs : List ℕ) → ask believed (toWrite p bs) S .reply ≡ done
@@ -106,6 +103,42 @@ pub code-lists-as-told : CodeListsAsTold
 code-lists-as-told as′ t after l f a o fits =
     reply-same as′ t after (callList l f a o) (toList (room l f a o)) listing ∙ listing-is-told as′ (accepted as′ t after) (room l f a o) fits
 
+-- ---- a step's reads
+
+module _ (as′ : List Ask) (t : State) (after : After as′ t) (s : List ℕ) (P : Program) (i : Image s P) where
+  step-same : shown (stepOf t s) ≡ stepped as′ P
+  step-same =
+      let f = fresh-follows as′ t after in
+      entries-answer (callStep s) (toStep P) (stepping (i .bytes) (i .taken)) t (f .1) .same ∙ ap (enter (toStep P)) (f .0)
+
+  step-reply : stepOf t s .reply ≡ stepped as′ P .reply
+  step-reply = ap (λ (x : Turn Memory). x .reply) step-same
+
+  at-read : {to : ℕ} {type : IrType} {p : ℕ} → AtRead (seen t) P to type p → AtRead (stateAfter as′) P to type p
+  at-read {to} {type} {p} r = subst (λ (z : Machine Memory). AtRead z P to type p) (fresh-follows as′ t after .0) r
+
+  at-copy : {q p n : ℕ} → AtCopy (seen t) P q p n → AtCopy (stateAfter as′) P q p n
+  at-copy {q} {p} {n} c = subst (λ (z : Machine Memory). AtCopy z P q p n) (fresh-follows as′ t after .0) c
+
+pub code-steps-grant-exactly-when-right : CodeStepsGrantExactlyWhenRight
+code-steps-grant-exactly-when-right as′ t after s P i to type p r =
+    rw (step-reply as′ t after s P i) (steps-granted-exactly-when-right as′ (accepted as′ t after) P to type p (at-read as′ t after s P i r))
+
+pub code-steps-read-last-stored : CodeStepsReadLastStored
+code-steps-read-last-stored as′ t after s P i to type p f j o r at d =
+    let x = steps-read-last-stored as′ (accepted as′ t after) P to type p f j o (at-read as′ t after s P i r) at (sym (step-reply as′ t after s P i) ∙ d) in
+    (x .0, x .1, ap (λ (z : Turn Memory). z .machine .vars to) (step-same as′ t after s P i) ∙ x .2)
+
+pub code-copies-refused : CodeCopiesRefused
+code-copies-refused as′ t after s P i q p n k c w = step-reply as′ t after s P i ∙ copies-refused as′ (accepted as′ t after) P q p n k (at-copy as′ t after s P i c) w
+
+pub code-copies-last-stored : CodeCopiesLastStored
+code-copies-last-stored as′ t after s P i q p n f j o c at d =
+    let bs = bytesFrom (madeAt (tells as′ .made) f j) o n in
+    ap (λ (z : Machine Memory). writeBytes (z .memory) q bs) (fresh-follows as′ t after .0)
+    ∙ copies-last-stored as′ (accepted as′ t after) P q p n f j o (at-copy as′ t after s P i c) at (sym (step-reply as′ t after s P i) ∙ d)
+    ∙ ap (λ (z : Turn Memory). ok (z .machine .memory)) (sym (step-same as′ t after s P i))
+
 -- a write that the memory refuses is refused by the entry
 write-refused : (as′ : List Ask) → Accepted as′ → (p k : ℕ) (bs : List ℕ) → writeBytes (stateAfter as′ .memory) p bs ≡ refused k → enter (toWrite p bs) (stateAfter as′) .reply ≡ refusal k
 unfolding enter ask hostWrite changes _>>=_
@@ -114,7 +147,11 @@ write-refused as′ h p k bs e = rw (is-true (sound (stateAfter as′)) (always-
 pub code-refuses-ever-after : CodeRefusesEverAfter
 code-refuses-ever-after as′ bs′ cs′ t after p f j o at end =
     let asks = (as′ ++ bs′) ++ cs′ in
-    let gone = refused-ever-after as′ bs′ cs′ (accepted asks t after) p f j o at end in (
+    let fine = accepted asks t after in
+    let gone = refused-ever-after as′ bs′ cs′ fine p f j o at end in
+    let why : (P : Program) (n : ℕ) → Why (tells asks) P p n frameGone = λ P n. refused-with-its-number asks fine P p n frameGone .0 (gone .0 P n) in (
       (λ s P i buffer. read-same asks t after s P i p buffer ∙ gone .0 P (length buffer)),
-      (λ bs b. reply-same asks t after (callWrite p bs) (toWrite p bs) (writing b) ∙ write-refused asks (accepted asks t after) p frameGone bs (gone .2 bs)),
+      (λ bs b. reply-same asks t after (callWrite p bs) (toWrite p bs) (writing b) ∙ write-refused asks fine p frameGone bs (gone .2 bs)),
+      (λ s P i to type r. code-steps-grant-exactly-when-right asks t after s P i to type p r .1 frameGone (λ e. absurd (omega arith)) .1 (why P (size (kindOf type)))),
+      (λ s P i q n c. code-copies-refused asks t after s P i q p n frameGone c (why P n)),
     )

@@ -4,22 +4,28 @@ use mathlib.Core.Bool.{false}
 use mathlib.Core.Logic.{_≢_, _⊎_, _↔_}
 use mathlib.Core.Path.{_≡_}
 use mathlib.Core.List.{List, [], _++_}
+use mathlib.Core.Option.{some}
 use lib.ListN.{length, getD, take}
-use Rattle.value.specs.Refusal.{notSound, frameGone}
+use Rattle.value.specs.Refusal.{notSound, frameGone, notBool}
+use Rattle.value.specs.Answer.{ok}
+use Rattle.value.specs.Value.{Value, IrType, kindOf, size, fromBytes}
 use Rattle.image.specs.Parse.{took}
 use Rattle.image.specs.Program.{Program}
 use Rattle.image.specs.Image.{loaded}
-use Rattle.memory.specs.Tables.{State, state, tables, registers, columns, live, bound, freshOf, soundOf}
+use Rattle.memory.specs.Tables.{State, state, tables, registers, columns, frameWord, bound, readAccessOf, freshOf, soundOf}
+use Rattle.memory.specs.Memory.{writeBytes}
+use Rattle.memory.specs.declared.Source.the-variants.{Local}
 use Rattle.machine.specs.Asks.{Ask, Reply, done, bytes, lists, refusal, replies}
 use Rattle.machine.specs.Machine as Machine
 use Rattle.machine.specs.Recalled.{recalled}
 use Rattle.machine.specs.Entries.{enter, answers, onwards}
-use Rattle.machine.specs.History.{ofConstant, ofPlace, madeAt, StandsFor, Ended, toldList}
-use Rattle.machine.specs.Demand.{tells, stateAfter, Right, Why}
+use Rattle.machine.specs.History.{History, ofConstant, ofPlace, madeAt, bytesFrom, StandsFor, Ended, toldList}
+use Rattle.machine.specs.Flat.{indexOf, placeOf}
+use Rattle.machine.specs.Demand.{tells, stateAfter, Right, Why, Alive, AtRead, AtCopy}
 use Rattle.eval.specs.Host.{hostListed}
 use Rattle.eval.specs.Entry.{readEntered}
 use Rattle.agree.specs.Seen.{seen, room}
-use Rattle.promise.specs.Calls.{Call, callRead, callWrite, callList, call, heard, shown, Good, Asks, Refuses, AllLent, Tells, withRefusals, heardBy, leftBy}
+use Rattle.promise.specs.Calls.{Call, callRead, callWrite, callStep, callList, call, Heard, heard, shown, Good, Asks, Refuses, AllLent, Tells, withRefusals, heardBy, leftBy}
 use Rattle.image.specs.Limits.{AreBytes}
 
 -- ---- one call
@@ -112,7 +118,7 @@ abbrev pub CodeGrantsExactlyWhenRight : Type 0
 CodeGrantsExactlyWhenRight = (as′ : List Ask) (t : State) → After as′ t → (s : List ℕ) (P : Program) → Image s P → (p : ℕ) (buffer : List ℕ)
     → ((bs : List ℕ) × (readOf t s p buffer ≡ bytes bs)) ↔ Right (tells as′) P p (length buffer)
 
--- 2. each byte granted is the one last stored at that place of that allocation, or zero
+-- 2. "each byte granted is the one last stored there, or zero"
 abbrev pub CodeReadsLastStored : Type 0
 CodeReadsLastStored = (as′ : List Ask) (t : State) → After as′ t → (s : List ℕ) (P : Program) → Image s P → (p : ℕ) (buffer : List ℕ) (f j o : ℕ) (bs : List ℕ)
     → StandsFor (tells as′) p (ofPlace f j o) → readOf t s p buffer ≡ bytes bs
@@ -128,17 +134,43 @@ abbrev pub CodeRefusesWithItsNumber : Type 0
 CodeRefusesWithItsNumber = (as′ : List Ask) (t : State) → After as′ t → (s : List ℕ) (P : Program) → Image s P → (p : ℕ) (buffer : List ℕ) (k : ℕ)
     → (readOf t s p buffer ≡ refusal k) ↔ Why (tells as′) P p (length buffer) k
 
--- "27 exactly where the frame has ended"
+-- 27 is given exactly where the frame has returned
 abbrev pub CodeGoneExactlyWhenEnded : Type 0
 CodeGoneExactlyWhenEnded = (as′ : List Ask) (t : State) → After as′ t → (s : List ℕ) (P : Program) → Image s P → (p : ℕ) (buffer : List ℕ)
     → (readOf t s p buffer ≡ refusal frameGone) ↔ ((f : ℕ) × (j : ℕ) × (o : ℕ) × StandsFor (tells as′) p (ofPlace f j o) × Ended (tells as′) f)
 
--- 4. the extents that the compiled reads and writes use lie apart: of two live allocations one ends before the other begins
-abbrev pub CodeExtentsApart : Type 0
-CodeExtentsApart = (as′ : List Ask) (t : State) → After as′ t → (j k : ℕ) → j < live (t .memory) → k < live (t .memory) → j ≢ k
-    → (bound (t .memory) (j + 1) ≤ bound (t .memory) k) ⊎ (bound (t .memory) (k + 1) ≤ bound (t .memory) j)
+-- 4. "Live allocations never share a byte."
 
--- "an accepted write through one allocation changes no byte that is granted through another"
+-- the bytes of the store that the code has for allocation j of frame f: from `begins` to below `ends`, by the record at the frame's index and by two bounds
+abbrev pub rankOf : History → State → (frame allocation : ℕ) → ℕ
+rankOf h t f j = frameWord (t .memory .frames) (indexOf h f) 3 + j
+
+abbrev pub begins : History → State → (frame allocation : ℕ) → ℕ
+begins h t f j = bound (t .memory) (rankOf h t f j)
+
+abbrev pub ends : History → State → (frame allocation : ℕ) → ℕ
+ends h t f j = bound (t .memory) (rankOf h t f j + 1)
+
+-- an access through p that is granted has its n bytes there, `at` being the first; a write's place is a read's (`writeAccessOf`)
+abbrev pub CodeAccessesItsOwn : Type 0
+CodeAccessesItsOwn = (as′ : List Ask) (t : State) → After as′ t → (p n at f j o : ℕ) → StandsFor (tells as′) p (ofPlace f j o) → readAccessOf (t .memory) p n ≡ Local at
+    → (at ≡ begins (tells as′) t f j + o) × (at + n ≤ ends (tells as′) t f j)
+
+-- of two that live and are not the same, one ends before the other begins
+abbrev pub CodeExtentsApart : Type 0
+CodeExtentsApart = (as′ : List Ask) (t : State) → After as′ t → (f j f′ j′ : ℕ) → Alive (tells as′) f j → Alive (tells as′) f′ j′ → (f ≢ f′) ⊎ (j ≢ j′)
+    → (ends (tells as′) t f j ≤ begins (tells as′) t f′ j′) ⊎ (ends (tells as′) t f′ j′ ≤ begins (tells as′) t f j)
+
+-- each lies "end to end in the store from its start, frame by frame upward, in the order made", is as long as it was made, and ends in the store
+pub record Lies (as′ : List Ask) (t : State) (f j : ℕ) : Type 0 where
+  pub place : begins (tells as′) t f j ≡ placeOf (tells as′) f j
+  pub long : ends (tells as′) t f j ≡ begins (tells as′) t f j + madeAt (tells as′ .made) f j .size
+  pub stored : ends (tells as′) t f j ≤ length (t .memory .store)
+
+abbrev pub CodeExtentsLie : Type 0
+CodeExtentsLie = (as′ : List Ask) (t : State) → After as′ t → (f j : ℕ) → Alive (tells as′) f j → Lies as′ t f j
+
+-- an accepted write through one allocation changes no byte that is granted through another
 abbrev pub CodeWritesStayApart : Type 0
 CodeWritesStayApart = (as′ : List Ask) (t : State) → After as′ t → (p q f j o f′ j′ o′ : ℕ) (bs : List ℕ) → AreBytes bs → call (callWrite p bs) t .reply ≡ done
     → StandsFor (tells as′) p (ofPlace f j o) → StandsFor (tells as′) q (ofPlace f′ j′ o′) → (f ≢ f′) ⊎ (j ≢ j′)
@@ -149,9 +181,38 @@ abbrev pub CodeListsAsTold : Type 0
 CodeListsAsTold = (as′ : List Ask) (t : State) → After as′ t → (l f a o : List ℕ) → length (tells as′ .given) ≤ room l f a o
     → call (callList l f a o) t .reply ≡ lists (toldList (tells as′))
 
+-- 6. a step reads as the host does
+
+abbrev pub stepOf : State → (image : List ℕ) → Heard
+stepOf t s = call (callStep s) t
+
+-- a Read is refused with no number, or with 31 alone, exactly when the host's read would be granted; every other number is the host's
+abbrev pub CodeStepsGrantExactlyWhenRight : Type 0
+CodeStepsGrantExactlyWhenRight = (as′ : List Ask) (t : State) → After as′ t → (s : List ℕ) (P : Program) → Image s P → (to : ℕ) (type : IrType) (p : ℕ) → AtRead (seen t) P to type p
+    → (((k : ℕ) → stepOf t s .reply ≡ refusal k → k ≡ notBool) ↔ Right (tells as′) P p (size (kindOf type)))
+    × ((k : ℕ) → k ≢ notBool → (stepOf t s .reply ≡ refusal k) ↔ Why (tells as′) P p (size (kindOf type)) k)
+
+-- and its value is made of the bytes last stored
+abbrev pub CodeStepsReadLastStored : Type 0
+CodeStepsReadLastStored = (as′ : List Ask) (t : State) → After as′ t → (s : List ℕ) (P : Program) → Image s P → (to : ℕ) (type : IrType) (p f j o : ℕ) → AtRead (seen t) P to type p
+    → StandsFor (tells as′) p (ofPlace f j o) → stepOf t s .reply ≡ done
+    → (v : Value) × (fromBytes type (bytesFrom (madeAt (tells as′ .made) f j) o (size (kindOf type))) ≡ ok v) × (seen (stepOf t s .left) .vars to ≡ some v)
+
+-- a Copy is refused as the host's read would be, else it writes the bytes last stored
+abbrev pub CodeCopiesRefused : Type 0
+CodeCopiesRefused = (as′ : List Ask) (t : State) → After as′ t → (s : List ℕ) (P : Program) → Image s P → (q p n k : ℕ) → AtCopy (seen t) P q p n → Why (tells as′) P p n k
+    → stepOf t s .reply ≡ refusal k
+
+abbrev pub CodeCopiesLastStored : Type 0
+CodeCopiesLastStored = (as′ : List Ask) (t : State) → After as′ t → (s : List ℕ) (P : Program) → Image s P → (q p n f j o : ℕ) → AtCopy (seen t) P q p n
+    → StandsFor (tells as′) p (ofPlace f j o) → stepOf t s .reply ≡ done
+    → writeBytes (seen t .memory) q (bytesFrom (madeAt (tells as′ .made) f j) o n) ≡ ok (seen (stepOf t s .left) .memory)
+
 -- A pointer made in a call is refused in every later state after that call has returned: p is given for a place of the frame f, f has ended some asks later,
--- and after any more asks every host read and write through p is 27.
+-- and after any more asks every host read and write through p is 27, and so is a step's Read through it and a Copy from it.
 abbrev pub CodeRefusesEverAfter : Type 0
 CodeRefusesEverAfter = (as′ bs′ cs′ : List Ask) (t : State) → After ((as′ ++ bs′) ++ cs′) t → (p f j o : ℕ) → StandsFor (tells as′) p (ofPlace f j o) → Ended (tells (as′ ++ bs′)) f
     → ((s : List ℕ) (P : Program) → Image s P → (buffer : List ℕ) → readOf t s p buffer ≡ refusal frameGone)
     × ((bs : List ℕ) → AreBytes bs → call (callWrite p bs) t .reply ≡ refusal frameGone)
+    × ((s : List ℕ) (P : Program) → Image s P → (to : ℕ) (type : IrType) → AtRead (seen t) P to type p → stepOf t s .reply ≡ refusal frameGone)
+    × ((s : List ℕ) (P : Program) → Image s P → (q n : ℕ) → AtCopy (seen t) P q p n → stepOf t s .reply ≡ refusal frameGone)
