@@ -12,3 +12,4 @@ pub mod Plain
 pub mod Writes
 pub mod Takes
 pub mod Loads
+pub mod Numbers
