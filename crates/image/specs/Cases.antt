@@ -1,13 +1,13 @@
--- Small images and what loading answers: P1's program, which is written as its image again, and each refusal from 1 to 6 with its place, as one list that is computed.
+-- Small images and what loading answers: P1's program, which is written as its image again, and each refusal from 1 to 6 with its place, as one list that is computed; and P11.
 use Prim.Native.Nat.{ℕ}
 use mathlib.Core.Bool.{Bool, true, false, _&&_}
 use mathlib.Core.List.{List, [], _∷_}
 use mathlib.Core.Option.{none, some}
 use mathlib.Core.Path.{_≡_, refl}
-use lib.ListN.{take, replicate}
+use lib.ListN.{length, take, replicate}
 use lib.Dec.{eqb}
 use Rattle.value.specs.Refusal.{bytesRunOut, malformed, unknown, overLimit, beyondCount, leftOver}
-use Rattle.value.specs.Value.{Kind, value, tag, isScalar}
+use Rattle.value.specs.Value.{Kind, value, tag, isScalar, sameBytes}
 use Rattle.value.specs.Tags.{typeOfKind, holds}
 use Rattle.image.specs.Parse.{Got, took, refused, andThen, many, within}
 use Rattle.image.specs.Number.{groups, number, bytesOf, bytesFrom}
@@ -41,6 +41,24 @@ p1-loads = refl
 pub p1-written : written p1 ≡ p1Image
 unfolding written pieces W.function W.instruction tag bytesOf bytesFrom
 p1-written = refl
+
+-- a program was taken, to the last of the bytes, and it is written as these bytes
+unfoldable pub wholly : Got Program → List ℕ → Bool
+wholly (took P end) s = eqb end (length s) && sameBytes (written P) s
+wholly (refused n place) s = false
+
+-- "P1 whole image"; "Writing an accepted program gives its image's bytes again."
+abbrev pub p1Whole : Bool
+p1Whole = wholly (loaded p1Image) p1Image
+
+pub p1-whole : p1Whole ≡ true
+unfolding wholly sameBytes
+p1-whole = rw (p1-loads, wholly, p1-written)
+
+-- the program that was taken; a refused image has none, and then there is no function to start
+unfoldable pub programTaken : Got Program → Program
+programTaken (took P end) = P
+programTaken (refused n place) = record { variables = 0; constants = []; functions = []; blocks = [] }
 
 -- ---- refusals
 
@@ -111,14 +129,17 @@ all-refused = refl
 
 -- ---- P11
 
-unfoldable pub numberIs : Got ℕ → ℕ → Bool
-numberIs (took v next) n = eqb v n
-numberIs (refused m p) n = false
+-- this number, and what follows it begins at `end`
+unfoldable pub numberIs : Got ℕ → (v end : ℕ) → Bool
+numberIs (took w next) v end = eqb w v && eqb next end
+numberIs (refused m p) v end = false
 
--- "P11 300 is AC 02; 80 00 is refused with 2."
+-- "P11 300 is AC 02; 80 00 is refused with 2.": read to the second byte's end, and written
 abbrev pub p11 : Bool
-p11 = numberIs (number (0xac ∷ 0x02 ∷ []) 0) 300 && refusedAs (number (0x80 ∷ 0x00 ∷ []) 0) malformed 0
+p11 =
+    numberIs (number (0xac ∷ 0x02 ∷ []) 0) 300 2
+    && (sameBytes (bytesOf 300) (0xac ∷ 0x02 ∷ []) && refusedAs (number (0x80 ∷ 0x00 ∷ []) 0) malformed 0)
 
 pub p11-holds : p11 ≡ true
-unfolding numberIs refusedAs number groups
+unfolding numberIs refusedAs sameBytes number groups bytesOf bytesFrom
 p11-holds = refl

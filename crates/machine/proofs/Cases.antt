@@ -4,6 +4,7 @@ use Rattle.value.specs.Answer.{need, found, _>>=_}
 use Rattle.value.specs.Divide.{roundBits, divideBits}
 use Rattle.value.specs.Value.{kindOf, tag, size, family, isScalar, isBadChar, integer, bitsOf, checked, operate, arithmetic, divideFloats, negated, notted, real, naturals, integers, reals, passes, hasEquality, equality, unsignedOrder, signedOrder, floatOrder, compareInts, compareFloats, switchOn, leBytes, leNumber, bytesOf, fromBytes}
 use Rattle.memory.specs.Memory.{fresh, sum, liveCount, liveBytes, allocate, access, writeAt, writeBytes, readConstant, readAt, readBytes, offsetAt, offsetBy, constantAddress, pushFrame, popFrame}
+use Rattle.image.specs.Cases.{p1-loads, programTaken}
 use Rattle.machine.specs.Machine as M
 use Rattle.machine.specs.Believed.{believed}
 use Rattle.machine.specs.Recalled.{recalled}
@@ -12,10 +13,10 @@ use Rattle.machine.specs.Cases.{cases, allHold, ran, runs, sameOutcome, 
 use mathlib.Core.List.{flatten}
 
 pub all-hold : T (allHold believed cases)
-unfolding cases allHold ran runs sameOutcome sameValue need found _>>=_ roundBits divideBits tag size kindOf family isScalar isBadChar integer bitsOf checked operate arithmetic divideFloats negated notted real naturals integers reals passes hasEquality equality unsignedOrder signedOrder floatOrder compareInts compareFloats switchOn leBytes leNumber bytesOf fromBytes flatten fresh sum liveCount liveBytes allocate access writeAt writeBytes readConstant readAt readBytes offsetAt offsetBy constantAddress pushFrame popFrame M.start M.run M.runFrom M.after M.step M.execute M.leave M.makeSlots M.fresh M.setStarted M.setValues M.allGood M.setReturned M.valueIf M.toOf M.choose M.setArguments M.asVariable M.setFrom M.pointerOf M.asPointer M.valueOf
-all-hold = tt
+unfolding programTaken cases allHold ran runs sameOutcome sameValue need found _>>=_ roundBits divideBits tag size kindOf family isScalar isBadChar integer bitsOf checked operate arithmetic divideFloats negated notted real naturals integers reals passes hasEquality equality unsignedOrder signedOrder floatOrder compareInts compareFloats switchOn leBytes leNumber bytesOf fromBytes flatten fresh sum liveCount liveBytes allocate access writeAt writeBytes readConstant readAt readBytes offsetAt offsetBy constantAddress pushFrame popFrame M.start M.run M.runFrom M.after M.step M.execute M.leave M.makeSlots M.fresh M.setStarted M.setValues M.allGood M.setReturned M.valueIf M.toOf M.choose M.setArguments M.asVariable M.setFrom M.pointerOf M.asPointer M.valueOf
+all-hold = rw p1-loads tt
 
 -- and over the history alone
 pub all-told : T (allHold recalled cases)
-unfolding cases allHold ran runs sameOutcome sameValue need found _>>=_ roundBits divideBits tag size kindOf family isScalar isBadChar integer bitsOf checked operate arithmetic divideFloats negated notted real naturals integers reals passes hasEquality equality unsignedOrder signedOrder floatOrder compareInts compareFloats switchOn leBytes leNumber bytesOf fromBytes flatten sum readConstant beginning lastStored storedAt moved among first bytesFrom toldAt told next toldCount toldBytes tellAllocation tellAddress tellStoreAt tellStore tellOffsetAt tellOffset tellCall tellReturn M.start M.run M.runFrom M.after M.step M.execute M.leave M.makeSlots M.fresh M.setStarted M.setValues M.allGood M.setReturned M.valueIf M.toOf M.choose M.setArguments M.asVariable M.setFrom M.pointerOf M.asPointer M.valueOf
-all-told = tt
+unfolding programTaken cases allHold ran runs sameOutcome sameValue need found _>>=_ roundBits divideBits tag size kindOf family isScalar isBadChar integer bitsOf checked operate arithmetic divideFloats negated notted real naturals integers reals passes hasEquality equality unsignedOrder signedOrder floatOrder compareInts compareFloats switchOn leBytes leNumber bytesOf fromBytes flatten sum readConstant beginning lastStored storedAt moved among first bytesFrom toldAt told next toldCount toldBytes tellAllocation tellAddress tellStoreAt tellStore tellOffsetAt tellOffset tellCall tellReturn M.start M.run M.runFrom M.after M.step M.execute M.leave M.makeSlots M.fresh M.setStarted M.setValues M.allGood M.setReturned M.valueIf M.toOf M.choose M.setArguments M.asVariable M.setFrom M.pointerOf M.asPointer M.valueOf
+all-told = rw p1-loads tt

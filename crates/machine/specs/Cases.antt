@@ -1,4 +1,4 @@
--- P1 to P10 of 01 and some orders of checks, as one list that is computed: each is a program, started on fresh memory with these arguments and run.
+-- P1 to P10 of 01 and some orders of checks, as one list that is computed: each is a program, P1's from its image, started on fresh memory with these arguments and run.
 use Prim.Native.Nat.{ℕ}
 use mathlib.Core.Bool.{Bool, true, false, _&&_}
 use mathlib.Core.List.{List, [], _∷_}
@@ -8,6 +8,8 @@ use Rattle.value.specs.Answer.{Answer, ok, refused, _>>=_}
 use Rattle.value.specs.Refusal.{wrongKinds, outsideWidth, frameGone, beyondLength, misaligned, notBool, noReturnPlace, bytesExceedSize, noInstruction}
 use Rattle.value.specs.Value.{Value, value, Eq, ULt, FLt, IrType, bool, u8, u32, u64, i8, f32, pointer, tag, size}
 use Rattle.image.specs.Program.{Program, Operand, variable, literal, Slot, Item, Function, Instruction, Jump, Switch, Assign, ConstantAddress, Call, Return, IntCmp′, FloatCmp′, Add, Sub, Mul, Div, Mod, FDiv, Not, Negate, Offset, Initialize, Write, Read, Copy, Drop}
+use Rattle.image.specs.Image.{loaded}
+use Rattle.image.specs.Cases.{p1Image, programTaken}
 use Rattle.memory.specs.Memory.{fresh}
 use Rattle.machine.specs.Machine as M
 use Rattle.machine.specs.Machine.{Memories, Outcome, returned, paused, stopped, Ran}
@@ -63,9 +65,9 @@ of fs bs = record { variables = 16; constants = []; functions = fs; blocks = bs 
 abbrev pub just : List Instruction → Program
 just is = of (plain 0 [] [] ∷ []) (is ∷ [])
 
--- P1's image, as a program: "01 03 00 01 01 00 00 00 01 00 01 02 00 02 08 02 00 02 02 01 05 01 00 02"
+-- P1: the program that its bytes load as
 abbrev pub p1 : Program
-p1 = record { variables = 3; constants = []; functions = plain 0 (2 ∷ []) [] ∷ []; blocks = (Add 2 (variable 2) (literal (value u8 1)) ∷ Return (some (variable 2)) ∷ []) ∷ [] }
+p1 = programTaken (loaded p1Image)
 
 -- a step that sets the variable 2, and its return
 abbrev pub gives : Instruction → Program

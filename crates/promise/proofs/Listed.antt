@@ -2,7 +2,7 @@
 use mathlib.Core.Bool.{true}
 use mathlib.Core.Path.{_≡_, refl}
 use Rattle.value.proofs.Cases.{value-cases-hold}
-use Rattle.image.specs.Cases.{all-refused, p11-holds}
+use Rattle.image.specs.Cases.{p1-whole, all-refused, p11-holds}
 use Rattle.memory.specs.Cases.{cases-hold}
 use Rattle.value.specs.Cases as Value
 use Rattle.value.proofs.Truth.{is-true}
@@ -19,4 +19,4 @@ one-to-eleven =
     let b = is-true (Machine.allHold recalled Machine.cases) all-told in
     let c = is-true (Value.allHold Value.valueCases) value-cases-hold in
     let d = is-true (Memory.allHold Memory.cases) cases-hold in
-    rw (a, b, c, d, all-refused, p11-holds) refl
+    rw (p1-whole, a, b, c, d, all-refused, p11-holds) refl
