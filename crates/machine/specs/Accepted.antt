@@ -6,7 +6,7 @@ use mathlib.Core.List.{_∷_}
 use mathlib.Core.Option.{Option, none, some}
 use lib.ListN.{length}
 use lib.Dec.{ltb, leb}
-use Rattle.value.specs.Value.{Value, char, same}
+use Rattle.value.specs.Value.{Value, value, char, same}
 use Rattle.value.specs.Tags.{holds}
 use Rattle.image.specs.Program.{Program, Operand, variable, literal, Declared, code, Instruction, Jump, Switch, Assign, ConstantAddress, Call, Return, IntCmp′, FloatCmp′, Add, Sub, Mul, Div, Mod, FDiv, Not, Negate, Offset, Initialize, Write, Read, Copy, Drop}
 use Rattle.machine.specs.Machine.{asVariable}
@@ -59,6 +59,10 @@ accepted P = leb (P .variables) 256 && (leb (length (code P)) 4096 && (all areBy
 -- a value as an entry takes it: only a Char may be wrong, and then it is 15
 unfoldable pub given : Value → Bool
 given v = same (v .kind) char || holds (v .kind) (v .bits)
+
+-- "15 a Char that is no scalar value"
+abbrev pub badChar : Value
+badChar = value char 0xd800
 
 -- an accepted program where one is run, values and bytes
 unfoldable pub acceptedAsk : Ask → Bool

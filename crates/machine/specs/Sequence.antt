@@ -3,12 +3,13 @@
 use mathlib.Core.Bool.{true, false}
 use mathlib.Core.List.{List, [], _∷_}
 use mathlib.Core.Option.{none, some}
-use Rattle.value.specs.Refusal.{frameGone, running, idle, noFunction, wrongArguments, notScalar, neverSet, shortTable}
-use Rattle.value.specs.Value.{IrType, Value, value, bool, u8, u32, char, pointer}
+use Rattle.value.specs.Refusal.{frameGone, running, idle, noFunction, wrongArguments, notScalar, neverSet, bytesFull, shortTable}
+use Rattle.value.specs.Value.{IrType, value, bool, u8, u32, pointer}
 use Rattle.image.specs.Program.{Program, Item, variable, literal, Assign, Call, Return, Write}
 use Rattle.memory.specs.Live.{listed}
 use Rattle.memory.specs.Memory as Memory
 use Rattle.machine.specs.Machine.{Machine, unset, returned, paused, stopped}
+pub use Rattle.machine.specs.Accepted.{badChar}
 use Rattle.machine.specs.Asks.{Ask, toAllocate, toStart, toStep, toRun, toRead, toList, Reply, done, gave, bytes, ran, lists, refusal}
 use Rattle.machine.specs.Cases.{plain, of}
 
@@ -55,20 +56,21 @@ answered =
 
 -- ---- the entries
 
--- the function 0 returns its argument by the variable 5, 1 its return pointer, and 2 the variable 5
+-- the function 0 returns its argument by the variable 5, 1 its return pointer, and 2 the variable 5; 3 has room for its first slot and not for its second
 abbrev pub starts : Program
-starts = of (plain 0 (2 ∷ []) [] ∷ record { item = Item.function; entry = 1; returnVar = 0; contextVar = 1; returnPointer = true; parameters = []; slots = [] } ∷ plain 2 [] [] ∷ []) (
+starts = of (
+    plain 0 (2 ∷ []) []
+    ∷ record { item = Item.function; entry = 1; returnVar = 0; contextVar = 1; returnPointer = true; parameters = []; slots = [] }
+    ∷ plain 2 [] []
+    ∷ plain 2 [] (record { var = 6; size = 1 } ∷ record { var = 7; size = 32768 } ∷ [])
+    ∷ []) (
     (Assign 5 (variable 2) IrType.U8 ∷ Return (some (variable 5)) ∷ [])
     ∷ (Return (some (variable 0)) ∷ [])
     ∷ (Return (some (variable 5)) ∷ [])
     ∷ [])
 
--- a Char that is no scalar value
-abbrev pub badChar : Value
-badChar = value char 0xd800
-
--- "Order: .. 11 or 12, 13, 14, 15, then room": each of the first is refused by the first of its faults. The host allocates while the run is paused, a start clears the
--- variable 5, and after a refused instruction the machine still runs.
+-- "Order: .. 11 or 12, 13, 14, 15, then room": each of the first is refused by the first of its faults. The host allocates while the run is paused; nothing of a start without
+-- room remains, no slot's pointer and no running machine; a start clears the variable 5, and after a refused instruction the machine still runs.
 unfoldable pub entered : List Ask
 entered =
     toStep starts
@@ -83,6 +85,10 @@ entered =
     ∷ toRun starts 1
     ∷ toAllocate 4
     ∷ toList 0
+    ∷ toList 1
+    ∷ toRun starts 9
+    ∷ toStart starts 3 badChar []
+    ∷ toStart starts 3 (value bool 0) []
     ∷ toList 1
     ∷ toRun starts 9
     ∷ toStart starts 1 (value bool 0) (value pointer 3 ∷ [])
@@ -108,6 +114,10 @@ replied =
     ∷ refusal shortTable
     ∷ lists (listed true 0 0 0 ∷ [])
     ∷ ran (returned (some (value u8 7))) 1
+    ∷ refusal notScalar
+    ∷ refusal bytesFull
+    ∷ lists (listed true 0 0 0 ∷ [])
+    ∷ refusal idle
     ∷ done
     ∷ ran (returned (some (value pointer 3))) 1
     ∷ done
