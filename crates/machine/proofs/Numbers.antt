@@ -3,7 +3,7 @@ use Prim.Native.Nat.{ℕ, zero, suc, _+_, _<_, _≤_}
 use native.Mathlib.Omega.{arith}
 use mathlib.Core.Bool.{Bool, true, false}
 use mathlib.Core.Path.{_≡_, refl, sym, subst}
-use mathlib.Core.List.{List, [], _∷_}
+use mathlib.Core.List.{List, [], _∷_, _++_}
 use mathlib.Core.Option.{Option, none, some}
 use lib.ListN.{length, getElem?}
 use lib.Dec.{T, ltb, leb, eqb, leb→le, eqb→eq}
@@ -25,7 +25,7 @@ use Rattle.machine.specs.Asks.{Ask, toAllocate, toWrite, toRead, toStart
 use Rattle.machine.specs.History.{among}
 use Rattle.machine.specs.Accepted.{accepted}
 use Rattle.machine.specs.Sound.{all, sound}
-use Rattle.machine.specs.Promises.{room, access, instructionNumbers, stepNumbers, entryNumbers, EntriesGive, RunsStopWith}
+use Rattle.machine.specs.Promises.{roomNumbers, accessNumbers, instructionNumbers, stepNumbers, runNumbers, entryNumbers, InstructionsGive, EntriesGive, RunsStopWith}
 use Rattle.machine.proofs.Agree.{need-ok, ok-inj}
 use Rattle.machine.proofs.Initialize.{granted}
 use Rattle.machine.proofs.Values.{Keeps, kept}
@@ -264,7 +264,7 @@ module _ (P : Program) (s : Machine Memory) where
       (λ vs₂. only-after _ (set-from-only _ tt vs₂ (functionAt P f .contextVar) context)
       (λ vs₃. only-after _ (arguments-only _ tt vs₃ (functionAt P f .parameters) arguments) (λ vs₄. answered)))))
     where
-      pushed : (b : Back) → Only (framesFull ∷ idsSpent ∷ neverSet ∷ room) (pushFrame (s .memory) b)
+      pushed : (b : Back) → Only (framesFull ∷ idsSpent ∷ neverSet ∷ roomNumbers) (pushFrame (s .memory) b)
       pushed b = unfold pushFrame in only-need _ _ _ tt (λ t. only-need _ _ _ tt (λ u. answered))
   execute-only root (Return x) = only-after _ (value-if-only _ tt (s .vars) x) (λ v. leave-only _ tt v _)
   execute-only root (IntCmp′ to cmp x y) = sets₂-only _ tt to _ x y (compared-ints-only _ tt cmp)
@@ -288,7 +288,7 @@ module _ (P : Program) (s : Machine Memory) where
       only-after _ (pointer-only _ tt tt (s .vars) x)
       (λ p. only-after _ (read-only _ tt tt tt tt tt tt (P .constants) (s .memory) p (size (kindOf type))) (λ bytes. only-after _ (bool-only bytes) (λ v. answered)))
     where
-      bool-only : (bytes : List ℕ) → Only (neverSet ∷ wrongKinds ∷ notGivenOut ∷ noConstant ∷ notBool ∷ access) (fromBytes type bytes)
+      bool-only : (bytes : List ℕ) → Only (neverSet ∷ wrongKinds ∷ notGivenOut ∷ noConstant ∷ notBool ∷ accessNumbers) (fromBytes type bytes)
       bool-only bytes = unfold fromBytes in only-need _ _ _ tt (λ t. answered)
   execute-only root (Copy x y n) =
       only-after _ (pointer-only _ tt tt (s .vars) x)
@@ -329,11 +329,18 @@ module _ (P : Program) (s : Machine Memory) where
       go none = one-of tt
       go (some x) = only-more (each-known x) (execute-only root x)
 
+pub instructions-give : InstructionsGive
+instructions-give P s so x k e = go (execute believed P s x) (execute-only P s (sound-root s so) x) e
+  where
+    go : (a : Answer (Stepped Memory)) → Only (instructionNumbers x) a → a ≡ refused k → T (among k (instructionNumbers x))
+    go a answered d = absurd (let z : _≡_ {A = ℕ} 0 1 = cc in omega arith)
+    go a (one-of {k = j} t) d = let same : j ≡ k = cc in subst (λ (n : ℕ). T (among n (instructionNumbers x))) same t
+
 -- ---- entries
 
 -- a reply's number is its answer's
 module _ (ns : List ℕ) where
-  same-number : {j k : ℕ} → T (among j ns) → refusal j ≡ refusal k → T (among k ns)
+  pub same-number : {j k : ℕ} → T (among j ns) → refusal j ≡ refusal k → T (among k ns)
   same-number {j} {k} t e = let same : j ≡ k = cc in subst (λ (x : ℕ). T (among x ns)) same t
 
   changes-only : (s : Machine Memory) (r : Reply) → ((k : ℕ) → r ≡ refusal k → ⊥) → {a : Answer (Machine Memory)} → Only ns a → (k : ℕ) → changes s r a .reply ≡ refusal k → T (among k ns)
@@ -373,10 +380,21 @@ ask-only (toStart P f context gs) s root k e =
     only-after _ (slots-only _ tt tt tt (functionAt P f .slots) (s .memory) _) (λ x. answered)))))) k e
 ask-only (toStep P) s root k e = steps-only (entryNumbers (toStep P)) s (only-need _ _ _ tt (λ r. only-more known (step-only P s root))) k e
   where
-    known : T (subset stepNumbers (notSound ∷ Refusal.idle ∷ stepNumbers))
+    known : T (subset stepNumbers (runNumbers ++ stepNumbers))
     known = unfold subset all among in tt
 ask-only (toRun P budget) s root k e = goes-only (entryNumbers (toRun P budget)) s (only-need _ _ _ tt (λ r. answered)) k e
 ask-only (toList space) s root k e = lays-only (entryNumbers (toList space)) s (only-need _ _ _ tt (λ r. answered)) k e
+
+-- each can give 10
+pub unsound-known : (a : Ask) → T (among notSound (entryNumbers a))
+unfolding among entryNumbers
+unsound-known (toAllocate n) = tt
+unsound-known (toWrite p bs) = tt
+unsound-known (toRead P p n) = tt
+unsound-known (toStart P f context gs) = tt
+unsound-known (toStep P) = tt
+unsound-known (toRun P budget) = tt
+unsound-known (toList space) = tt
 
 pub entries-give : EntriesGive
 unfolding enter
@@ -384,16 +402,7 @@ entries-give a s k e = go (sound s) refl e
   where
     go : (b : Bool) → sound s ≡ b → pick b (ask believed a s) (turn (refusal notSound) s) .reply ≡ refusal k → T (among k (entryNumbers a))
     go true u d = ask-only a s (sound-root s (subst T (sym u) tt)) k d
-    go false u d = same-number (entryNumbers a) (known a) d
-      where
-        known : (a : Ask) → T (among notSound (entryNumbers a))
-        known (toAllocate n) = unfold among entryNumbers in tt
-        known (toWrite p bs) = unfold among entryNumbers in tt
-        known (toRead P p n) = unfold among entryNumbers in tt
-        known (toStart P f context gs) = unfold among entryNumbers in tt
-        known (toStep P) = unfold among entryNumbers in tt
-        known (toRun P budget) = unfold among entryNumbers in tt
-        known (toList space) = unfold among entryNumbers in tt
+    go false u d = same-number (entryNumbers a) (unsound-known a) d
 
 -- ---- runs
 

@@ -2,16 +2,16 @@
 use Prim.Native.Nat.{ℕ}
 use mathlib.Core.Bool.{false}
 use mathlib.Core.Path.{_≡_}
-use mathlib.Core.List.{List, [], _∷_}
+use mathlib.Core.List.{List, [], _∷_, _++_}
 use mathlib.Core.Option.{Option}
 use lib.Dec.{T}
 use Rattle.value.specs.Refusal as Refusal
 use Rattle.value.specs.Refusal.{noInstruction, neverSet, wrongKinds, outsideWidth, zeroDivisor, notGivenOut, throughConstant, frameGone, noAllocation, beyondLength, misaligned, notBool, noReturnPlace, offsetTooLarge, bytesExceedSize, framesFull, idsSpent, allocationsFull, bytesFull, pointersFull, noConstant}
-use Rattle.value.specs.Answer.{ok}
+use Rattle.value.specs.Answer.{ok, refused}
 use Rattle.value.specs.Value.{Value}
 use Rattle.image.specs.Program.{Program, Instruction, Jump, Switch, Assign, ConstantAddress, Call, Return, IntCmp′, FloatCmp′, Add, Sub, Mul, Div, Mod, FDiv, Not, Negate, Offset, Initialize, Write, Read, Copy, Drop}
 use Rattle.memory.specs.Memory.{Memory}
-use Rattle.machine.specs.Machine.{Machine, ended, stopped, step, runFrom}
+use Rattle.machine.specs.Machine.{Machine, ended, stopped, execute, step, runFrom}
 use Rattle.machine.specs.Believed.{believed}
 use Rattle.machine.specs.Sound.{sound}
 use Rattle.machine.specs.Accepted.{accepted, acceptedAsk}
@@ -39,18 +39,21 @@ ReturnedStays = (P : Program) (s s′ : Machine Memory) (v : Option Value) → s
 
 -- ---- the refusal numbers that each can give
 
-abbrev pub room : List ℕ
-room = allocationsFull ∷ bytesFull ∷ pointersFull ∷ []
+-- "Allocating checks 37, 38, 39"
+abbrev pub roomNumbers : List ℕ
+roomNumbers = allocationsFull ∷ bytesFull ∷ pointersFull ∷ []
 
-abbrev pub access : List ℕ
-access = frameGone ∷ noAllocation ∷ beyondLength ∷ misaligned ∷ []
+-- "Local access: 25, 26, 27, 28, 29, 30, then 31": those of the frame and the allocation
+abbrev pub accessNumbers : List ℕ
+accessNumbers = frameGone ∷ noAllocation ∷ beyondLength ∷ misaligned ∷ []
 
+-- as "Steps, in the order of their checks" has them
 unfoldable pub instructionNumbers : Instruction → List ℕ
 instructionNumbers (Jump label) = []
 instructionNumbers (Switch x branches default) = neverSet ∷ wrongKinds ∷ []
 instructionNumbers (Assign to x type) = neverSet ∷ []
 instructionNumbers (ConstantAddress to k) = pointersFull ∷ []
-instructionNumbers (Call to context f arguments returnPointer) = framesFull ∷ idsSpent ∷ neverSet ∷ room
+instructionNumbers (Call to context f arguments returnPointer) = framesFull ∷ idsSpent ∷ neverSet ∷ roomNumbers
 instructionNumbers (Return x) = neverSet ∷ noReturnPlace ∷ []
 instructionNumbers (IntCmp′ to cmp x y) = neverSet ∷ wrongKinds ∷ []
 instructionNumbers (FloatCmp′ to cmp x y) = neverSet ∷ wrongKinds ∷ []
@@ -63,10 +66,10 @@ instructionNumbers (FDiv to x y) = neverSet ∷ wrongKinds ∷ []
 instructionNumbers (Not to x) = neverSet ∷ wrongKinds ∷ []
 instructionNumbers (Negate to x) = neverSet ∷ wrongKinds ∷ outsideWidth ∷ []
 instructionNumbers (Offset to x d) = neverSet ∷ wrongKinds ∷ notGivenOut ∷ throughConstant ∷ offsetTooLarge ∷ pointersFull ∷ []
-instructionNumbers (Initialize to size bytes) = bytesExceedSize ∷ room
-instructionNumbers (Write x y) = neverSet ∷ wrongKinds ∷ notGivenOut ∷ throughConstant ∷ access
-instructionNumbers (Read to x type) = neverSet ∷ wrongKinds ∷ notGivenOut ∷ noConstant ∷ notBool ∷ access
-instructionNumbers (Copy x y size) = neverSet ∷ wrongKinds ∷ notGivenOut ∷ throughConstant ∷ noConstant ∷ access
+instructionNumbers (Initialize to size bytes) = bytesExceedSize ∷ roomNumbers
+instructionNumbers (Write x y) = neverSet ∷ wrongKinds ∷ notGivenOut ∷ throughConstant ∷ accessNumbers
+instructionNumbers (Read to x type) = neverSet ∷ wrongKinds ∷ notGivenOut ∷ noConstant ∷ notBool ∷ accessNumbers
+instructionNumbers (Copy x y size) = neverSet ∷ wrongKinds ∷ notGivenOut ∷ throughConstant ∷ noConstant ∷ accessNumbers
 instructionNumbers (Drop x) = []
 
 -- of any instruction, 20 to 40
@@ -75,15 +78,40 @@ stepNumbers =
     noInstruction ∷ neverSet ∷ wrongKinds ∷ outsideWidth ∷ zeroDivisor ∷ notGivenOut ∷ throughConstant ∷ frameGone ∷ noAllocation ∷ beyondLength ∷ misaligned ∷ notBool
     ∷ noReturnPlace ∷ offsetTooLarge ∷ bytesExceedSize ∷ framesFull ∷ idsSpent ∷ allocationsFull ∷ bytesFull ∷ pointersFull ∷ noConstant ∷ []
 
--- of an entry, after its image was loaded
+-- a refused instruction has one of its numbers
+abbrev pub InstructionsGive : Type 0
+InstructionsGive = (P : Program) (s : Machine Memory) → T (sound s) → (x : Instruction) (k : ℕ) → execute believed P s x ≡ refused k → T (among k (instructionNumbers x))
+
+-- of an entry, after its image was loaded. "Host checks run image, 10, then as allocating, Write, or Read without 31."
+abbrev pub allocateNumbers : List ℕ
+allocateNumbers = Refusal.notSound ∷ roomNumbers
+
+abbrev pub writeNumbers : List ℕ
+writeNumbers = Refusal.notSound ∷ notGivenOut ∷ throughConstant ∷ accessNumbers
+
+abbrev pub readNumbers : List ℕ
+readNumbers = Refusal.notSound ∷ notGivenOut ∷ noConstant ∷ accessNumbers
+
+-- "Order: image, 10, 11 or 12, 13, 14, 15, then room"
+abbrev pub startNumbers : List ℕ
+startNumbers = Refusal.notSound ∷ Refusal.running ∷ Refusal.noFunction ∷ Refusal.wrongArguments ∷ Refusal.notScalar ∷ roomNumbers
+
+-- "12 run on an idle one"; a step has those of its instruction too
+abbrev pub runNumbers : List ℕ
+runNumbers = Refusal.notSound ∷ Refusal.idle ∷ []
+
+-- "41 list table shorter than the pointers"
+abbrev pub listNumbers : List ℕ
+listNumbers = Refusal.notSound ∷ Refusal.shortTable ∷ []
+
 unfoldable pub entryNumbers : Ask → List ℕ
-entryNumbers (toAllocate n) = Refusal.notSound ∷ room
-entryNumbers (toWrite p bs) = Refusal.notSound ∷ notGivenOut ∷ throughConstant ∷ access
-entryNumbers (toRead P p n) = Refusal.notSound ∷ notGivenOut ∷ noConstant ∷ access
-entryNumbers (toStart P f context gs) = Refusal.notSound ∷ Refusal.running ∷ Refusal.noFunction ∷ Refusal.wrongArguments ∷ Refusal.notScalar ∷ room
-entryNumbers (toStep P) = Refusal.notSound ∷ Refusal.idle ∷ stepNumbers
-entryNumbers (toRun P budget) = Refusal.notSound ∷ Refusal.idle ∷ []
-entryNumbers (toList room) = Refusal.notSound ∷ Refusal.shortTable ∷ []
+entryNumbers (toAllocate n) = allocateNumbers
+entryNumbers (toWrite p bs) = writeNumbers
+entryNumbers (toRead P p n) = readNumbers
+entryNumbers (toStart P f context gs) = startNumbers
+entryNumbers (toStep P) = runNumbers ++ stepNumbers
+entryNumbers (toRun P budget) = runNumbers
+entryNumbers (toList room) = listNumbers
 
 abbrev pub EntriesGive : Type 0
 EntriesGive = (a : Ask) (s : Machine Memory) (k : ℕ) → enter a s .reply ≡ refusal k → T (among k (entryNumbers a))
