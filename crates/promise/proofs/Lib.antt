@@ -7,3 +7,4 @@ pub mod Told
 pub mod Extents
 pub mod Tells
 pub mod Listed
+pub mod Numbers

@@ -1,3 +1,4 @@
 pub mod Calls
 pub mod Promised
 pub mod List
+pub mod Numbers
