@@ -9,3 +9,4 @@ pub mod Names
 pub mod Reading
 pub mod Whole
 pub mod Settled
+pub mod Room

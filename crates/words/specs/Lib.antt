@@ -5,3 +5,4 @@ pub mod Words
 pub mod Kinds
 pub mod Pairs
 pub mod Text
+pub mod Room
