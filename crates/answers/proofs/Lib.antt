@@ -1,3 +1,4 @@
 pub mod Again
 pub mod Parts
 pub mod Written
+pub mod Room
