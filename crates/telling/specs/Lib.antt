@@ -2,3 +2,4 @@ pub mod Bounds
 pub mod Told
 pub mod Listed
 pub mod Runs
+pub mod Room
