@@ -9,7 +9,7 @@ use Rattle.image.specs.Program.{Program, Item, variable, literal, Assign, Call,
 use Rattle.memory.specs.Live.{listed}
 use Rattle.memory.specs.Memory as Memory
 use Rattle.machine.specs.Machine.{Machine, unset, returned, paused, stopped}
-pub use Rattle.machine.specs.Accepted.{badChar}
+use Rattle.machine.specs.Accepted.{badChar}
 use Rattle.machine.specs.Asks.{Ask, toAllocate, toStart, toStep, toRun, toRead, toList, Reply, done, gave, bytes, ran, lists, refusal}
 use Rattle.machine.specs.Cases.{plain, of}
 

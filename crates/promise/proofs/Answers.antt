@@ -14,7 +14,7 @@ use Rattle.machine.specs.Sound.{all}
 use Rattle.machine.specs.Accepted.{given}
 use Rattle.instruction.specs.Variables.{found}
 use Rattle.machine.specs.Asks.{Ask, turn, toAllocate, toWrite, toRead, toStart, toStep, toRun, toList}
-use Rattle.machine.specs.Sequence.{badChar}
+use Rattle.machine.specs.Accepted.{badChar}
 use Rattle.instruction.specs.declared.variables.Found.{Found}
 use Rattle.eval.specs.Entry.{Entering}
 use Rattle.eval.specs.Start.{startEntered}

@@ -21,7 +21,7 @@ use Rattle.memory.specs.declared.Place.the-variants as place
 use Rattle.memory.specs.Tables.{State, every, soundOf}
 use Rattle.machine.specs.Sound.{all}
 use Rattle.machine.specs.Accepted.{given}
-use Rattle.machine.specs.Sequence.{badChar}
+use Rattle.machine.specs.Accepted.{badChar}
 use Rattle.instruction.specs.Variables.{found, setVariable}
 use Rattle.instruction.specs.Decode.{fieldAt}
 use Rattle.instruction.specs.Code.{Stepped}

@@ -31,7 +31,7 @@ use Rattle.memory.specs.Tables as Memory
 use Rattle.machine.specs.Sound.{all}
 use Rattle.machine.specs.Accepted as Accepted
 use Rattle.machine.specs.Asks.{refusal}
-use Rattle.machine.specs.Sequence.{badChar}
+use Rattle.machine.specs.Accepted.{badChar}
 use Rattle.instruction.specs.Variables.{found}
 use Rattle.instruction.specs.Code.{Stepped}
 use Rattle.instruction.specs.declared.step.Progress.{Progress}

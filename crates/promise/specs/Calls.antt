@@ -15,7 +15,7 @@ use Rattle.memory.specs.Tables.{State, every, soundOf}
 use Rattle.machine.specs.Sound.{all}
 use Rattle.machine.specs.Accepted.{given}
 use Rattle.machine.specs.Asks.{Ask, toAllocate, toWrite, toRead, toStart, toStep, toRun, toList, Reply, refusal, Turn, turn}
-use Rattle.machine.specs.Sequence.{badChar}
+use Rattle.machine.specs.Accepted.{badChar}
 use Rattle.instruction.specs.Variables.{found}
 use Rattle.instruction.specs.declared.variables.Found.{Found}
 use Rattle.eval.specs.Host.{hostAllocated, hostWritten, hostListed}

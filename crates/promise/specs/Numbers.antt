@@ -1,4 +1,4 @@
--- "each entry answers, or refuses by a number from document 01": the numbers that a call of the compiled entries can give, on any state.
+-- "each entry answers, or refuses by a number": the numbers of document 01 that a call of the compiled entries can give, on any state.
 use Prim.Native.Nat.{ℕ}
 use mathlib.Core.Path.{_≡_}
 use mathlib.Core.List.{List, [], _∷_, _++_}
