@@ -18,6 +18,6 @@ ordered Believed.unordered = O.Unordered
 unfoldable pub floating : Value → Real
 floating v = pick (isFloat (family (v .kind))) (real v) Believed.nan
 
--- the same as one of the machine's floats
+-- the same as one of the machine's floats; only a private function speaks of this
 unfoldable pub wideOf : Value → I.Float
 wideOf v = pick (isFloat (family (v .kind))) (ofBits (formatOf (v .kind)) (v .bits)) I.nan

@@ -8,7 +8,7 @@ use Rattle.value.specs.Refusal.{bytesRunOut, malformed}
 use Rattle.image.specs.Parse.{took, refused, Field}
 
 -- The groups of a number from `at` on: `left` bytes may have their top bit set, the next group weighs `weight`, and `sum` is
--- what the groups before it make. Nine groups weigh 2^63 together, so a tenth byte can only be 1; and only the number 0 ends in a byte 0.
+-- what the groups before it make. Nine groups hold what is below 2^63, and the tenth weighs 2^63, so a tenth byte can only be 1; and only the number 0 ends in a byte 0.
 -- A refusal's place is the number's first byte.
 unfoldable pub groups : (left start weight sum : ℕ) → List ℕ → Field ℕ
 groups zero start weight sum s at =

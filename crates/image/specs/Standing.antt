@@ -14,7 +14,7 @@ Stand s at [] end = at ≡ end
 Stand s at (num v ∷ ps) end = (next : ℕ) × (number s at ≡ took v next) × Stand s next ps end
 Stand s at (raw bs ∷ ps) end = (next : ℕ) × (Fields.raw s (length bs) at ≡ took bs next) × Stand s next ps end
 
--- the pieces stand from `at` on, which is past the image's first byte
+-- the pieces stand from `at` on, which is past the image's first byte: the version is there, and a step's field has place 0 where it was refused
 pub record Stands (s : List ℕ) (at : ℕ) (ps : List Piece) : Type 0 where
   pub past : 0 < at
   pub end : ℕ

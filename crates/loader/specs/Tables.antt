@@ -49,7 +49,7 @@ loadedOf (refused number place) = record {
 abbrev pub loadedFrom : List ℕ → Code.Loaded
 loadedFrom s = loadedOf (image s)
 
--- ---- one list of items, and the blocks, read with their tables
+-- ---- one list of items, and the blocks, read with their tables: only the private functions speak of these
 
 -- the step after the header, and its counts where it was taken
 pub record Heads (s : List ℕ) (end : Step) (n : Counts) : Type 0 where

@@ -2,7 +2,6 @@
 ghost use mathlib.Core.Path.{_≡_};
 ghost use Rattle.value.specs.Refusal.{unknown};
 ghost use Rattle.image.specs.Parse.{many};
-ghost use Rattle.image.specs.Number.{number};
 ghost use Rattle.image.specs.Fields.{below, optional, listOf, bytes};
 ghost use Rattle.image.specs.Image.{var, label, constant, callee, u32, size, type, operand, branch, declared, instruction};
 ghost use Rattle.image.specs.Answer.{walk};

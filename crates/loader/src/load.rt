@@ -4,7 +4,6 @@ ghost use Prim.Native.Nat.{_+_, _≤_};
 ghost use lib.ListN.{length};
 ghost use Rattle.image.specs.Parse.{Got, many, placed};
 ghost use Rattle.image.specs.Image.{constants, function, instruction, blocks};
-ghost use Rattle.image.specs.Answer.{walk};
 ghost use Rattle.loader.specs.Counts.{countsOf};
 ghost use Rattle.loader.specs.Tables.{Fills, FillsBlocks, Heads, loadedOf, loadedFrom};
 use crate::Counts;

@@ -1,7 +1,7 @@
 -- The integer kernel over whole numbers: sums, products and what a width holds, with no width named.
 use mathlib.Core.Path.{_≡_, refl, sym, ap, _∙_, subst}
 use mathlib.Core.Bool.{Bool, true, false, not, cond, Bool·beq}
-use Prim.Native.Nat.{ℕ, zero, suc, _+_, _-_, _*_, _/_, _<_, _≤_, _^_}
+use Prim.Native.Nat.{ℕ, zero, suc, _-_, _*_, _/_, _<_, _≤_, _^_}
 use native.Mathlib.Omega.{arith}
 use native.Mathlib.Nat.{le-trans, lt-of-lt-of-le, mul-comm, le-div-iff-mul-le, div-lt-iff-lt-mul}
 use lib.Pow.{pow-mono}

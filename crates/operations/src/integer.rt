@@ -130,7 +130,7 @@ pub fn rem(x: IrValue, y: IrValue) -> Computed
     }
 }
 
-// A signed integer or a float with the y sign.
+// A signed integer or a float with the other sign.
 pub fn negate(x: IrValue) -> Computed
     ensures { λ r. ⌜ r ≡ computed (negated (valueOf x)) ⌝ }
 {

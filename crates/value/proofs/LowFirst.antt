@@ -1,7 +1,7 @@
 -- The bytes of a number, the lowest first, there and back.
 use mathlib.Core.Path.{_≡_, refl, sym, ap, _∙_, subst}
 use mathlib.Core.List.{List, [], _∷_, _++_}
-use Prim.Native.Nat.{ℕ, zero, suc, _+_, _-_, _*_, _/_, _%_, _<_, _≤_, _^_}
+use Prim.Native.Nat.{ℕ, zero, suc, _+_, _*_, _/_, _%_, _<_, _≤_, _^_}
 use native.Mathlib.Nat.{zero-add, lt-of-lt-of-le}
 use lib.Pow.{pow-add, pow-mono, pow-pos}
 use native.Mathlib.Omega.{arith}

@@ -1,4 +1,4 @@
--- Worked cases of document 01 that values alone decide, as a list that is computed. A crate above appends its own.
+-- Worked cases of document 01 that values alone decide, as a list that is computed.
 use Prim.Native.Nat.{ℕ}
 use mathlib.Core.Bool.{Bool, true, false, _&&_}
 use mathlib.Core.List.{List, [], _∷_}

@@ -1,4 +1,4 @@
-// Tags, sizes and bits of types and values.
+// Tags and sizes of types.
 ghost use mathlib.Core.Path.{_≡_};
 ghost use Rattle.value.specs.Value.{kindOf, tag, size};
 ghost use Rattle.value.specs.Tags.{typeAt};

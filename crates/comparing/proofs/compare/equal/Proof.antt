@@ -1,6 +1,6 @@
 -- `equal`: one kind that has an equality, and then floats by their order and others by their bits.
 use borrow.Author.Needs.{needs}
-use mathlib.Core.Path.{ap, _∙_}
+use mathlib.Core.Path.{ap}
 use mathlib.Core.List.{[], _∷_}
 use Rattle.value.specs.Value.{family, isFloat}
 use Rattle.value.specs.Ir.{valueOf}

@@ -1,9 +1,8 @@
 -- `as_u64`: the four unsigned kinds, and no other.
 use borrow.Author.Needs.{needs}
-use mathlib.Core.Path.{refl, sym, ap}
+use mathlib.Core.Path.{refl}
 use mathlib.Core.List.{[], _∷_}
-use Rattle.value.specs.Answer.{pick}
-use Rattle.value.specs.Value.{Kind, family, isUnsigned}
+use Rattle.value.specs.Value.{family, isUnsigned}
 use Rattle.value.specs.Ir.{valueOf}
 use Rattle.comparing.specs.Compare.{asUnsigned}
 use Rattle.value.proofs.Leftover.{left-over, rest}
