@@ -5,9 +5,9 @@ use mathlib.Core.Path.{_≡_, refl, _∙_}
 use mathlib.Core.List.{List, _∷_, _++_}
 use Rattle.value.specs.Answer.{Answer, ok, refused, _>>=_}
 use Rattle.value.specs.Value.{Value, IrType, IntCmp, Eq, Ne, ULt, ULe, UGt, UGe, SLt, SLe, SGt, SGe, FloatCmp, FEq, FNe, FLt, FLe, FGt, FGe, compareInts, compareFloats, add, sub, mul, div, mod′, arithmetic, divideFloats, notted, negated}
-use Rattle.value.specs.Tags.{intCmpAt, floatCmpAt}
+use Rattle.value.specs.Tags.{intCmpAt, floatCmpAt, intCmpNumber, floatCmpNumber}
 use Rattle.image.specs.Program.{Program, Operand, Instruction, Assign, IntCmp′, FloatCmp′, Add, Sub, Mul, Div, Mod, FDiv, Not, Negate}
-use Rattle.image.specs.Written.{Piece, num, intCmpNumber, floatCmpNumber, flagNumber, typeNumber}
+use Rattle.image.specs.Written.{Piece, num, flagNumber, typeNumber}
 use Rattle.image.specs.Written as W
 use Rattle.memory.specs.Tables.{State}
 use Rattle.memory.specs.View.{variablesIn}

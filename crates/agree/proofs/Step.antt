@@ -9,8 +9,9 @@ use lib.Dec.{leb}
 use borrow.Author.Tests.{leb-true, leb-false}
 use Rattle.value.specs.Answer.{Answer, _>>=_}
 use Rattle.value.specs.Answer as Answer
+use Rattle.value.specs.Tags.{intCmpNumber, floatCmpNumber}
 use Rattle.image.specs.Program.{Program, code, Instruction, Jump, Switch, Assign, ConstantAddress, Call, Return, IntCmp′, FloatCmp′, Add, Sub, Mul, Div, Mod, FDiv, Not, Negate, Offset, Initialize, Write, Read, Copy, Drop}
-use Rattle.image.specs.Written.{Piece, num, intCmpNumber, floatCmpNumber, flagNumber, typeNumber, lengthAnd, counted, maybe}
+use Rattle.image.specs.Written.{Piece, num, flagNumber, typeNumber, lengthAnd, counted, maybe}
 use Rattle.image.specs.Written as W
 use Rattle.memory.specs.Memory.{Memory}
 use Rattle.memory.specs.Tables.{State}

@@ -1,10 +1,10 @@
 -- Of an image that was taken, for the layers above: where the items of its program stand, and which bounds they keep.
 -- Each statement is about the loader's answer `loadedFrom s` and the program P alone.
-use Prim.Native.Nat.{ℕ, _+_, _≤_, _<_}
+use Prim.Native.Nat.{ℕ, _≤_, _<_}
 use native.Mathlib.Omega.{arith}
 use mathlib.Core.Path.{_≡_, refl, sym, ap, subst, _∙_}
 use mathlib.Core.List.{List, [], _∷_, map, flatten}
-use lib.ListN.{length, getD, replicate, length-append, length-map, length-replicate}
+use lib.ListN.{length, getD, replicate, length-map, length-replicate}
 use lib.Seq.{length-sets}
 use Rattle.image.specs.Parse.{took}
 use Rattle.image.specs.Program.{Program, Instruction, noFunction, functionAt, code, placeOf}
@@ -14,7 +14,7 @@ use Rattle.image.specs.Written as W
 use Rattle.loader.specs.declared.load.Loaded.{Loaded}
 use Rattle.loader.specs.Tables.{ats, loadedOf, loadedFrom}
 use Rattle.loader.proofs.Turn.{then-took}
-use Rattle.image.specs.Limits.{Each, total, IsInstruction, IsFunctionItem, countsOf, WithinLimits, AreBytes}
+use Rattle.image.specs.Limits.{Each, IsInstruction, IsFunctionItem, countsOf, WithinLimits, AreBytes}
 use Rattle.image.proofs.Takes.{each-append}
 use Rattle.image.proofs.Writes.{function-spells, instruction-spells, loaded-within}
 use Rattle.image.specs.Standing.{Stands}
@@ -42,11 +42,6 @@ pub flat-each : (ok : Instruction → Type 0) (bs : List (List Instruction)) →
 unfolding flatten Each
 flat-each ok [] h = tt
 flat-each ok (b ∷ bs) h = each-append ok b (flatten bs) (h .0) (flat-each ok bs (h .1))
-
-flat-total : (bs : List (List Instruction)) → length (flatten bs) ≡ total bs
-unfolding flatten total
-flat-total [] = refl
-flat-total (b ∷ bs) = length-append b (flatten bs) ∙ ap (λ (n : ℕ). length b + n) (flat-total bs)
 
 -- the loader's counts are the program's
 pub record Counted (l : Loaded) (P : Program) : Type 0 where
@@ -139,7 +134,7 @@ module _ (s : List ℕ) (bytes : AreBytes s) (P : Program) (e : ℕ) (h : loaded
   function-within f = each-at (IsFunctionItem (countsOf P)) (P .functions) (within-limits .functions) noFunction f
 
   pub code-within : length (code P) ≤ 4096
-  code-within = omega (arith, flat-total (P .blocks), within-limits .instructionCount)
+  code-within = within-limits .instructionCount
 
   pub place-within : (l : ℕ) → placeOf P l ≤ 4096
   place-within l = omega (arith, flatten-front l (P .blocks), code-within)

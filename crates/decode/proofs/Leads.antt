@@ -9,7 +9,7 @@ use Rattle.value.specs.Refusal.{overLimit}
 use Rattle.image.specs.Parse.{took, Field, Placed, many, within, placed}
 use Rattle.image.specs.Fields.{atMost, bytes, listOf}
 use Rattle.image.specs.Program.{Instruction, noFunction, functionAt, code, placeOf}
-use Rattle.image.specs.Image.{Counts, Image, constants, function, instruction, blocks, programOf}
+use Rattle.image.specs.Image.{Counts, Image, constants, function, instruction, block, blocks, programOf}
 use Rattle.image.specs.Written as W
 use Rattle.image.specs.Limits.{Each, AreBytes}
 use Rattle.image.proofs.Standing.{forward, stand-forward}
@@ -66,13 +66,13 @@ module _ (s : List ℕ) (ok : AreBytes s) where
   instruction-forward n = spelt-forward s (λ left. instruction s n) W.instruction _ (λ left. instruction-spells ok n)
 
   blocks-each : (n : Counts) (from left m at : ℕ) (bs : List (List (Placed Instruction))) (e : ℕ) → from ≤ at
-      → within length left m (λ left. listOf s left (placed (instruction s n))) at ≡ took bs e → Each (Read (λ left. instruction s n) from) (flatten bs) × (length (flatten bs) ≤ left)
+      → within length left m (block s (placed (instruction s n))) at ≡ took bs e → Each (Read (λ left. instruction s n) from) (flatten bs) × (length (flatten bs) ≤ left)
   unfolding listOf Each flatten
   blocks-each n from left zero at bs e le h =
-      let is = within-done length (λ left. listOf s left (placed (instruction s n))) left at h .0 in
+      let is = within-done length (block s (placed (instruction s n))) left at h .0 in
       (subst (λ (l : List (List (Placed Instruction))). Each (Read (λ left. instruction s n) from) (flatten l)) (sym is) tt, omega (arith, ap (λ (l : List (List (Placed Instruction))). length (flatten l)) is))
   blocks-each n from left (suc m) at bs e le h =
-      let (b, at′, more-bs, e₁, e₂, is) = within-took length (λ left. listOf s left (placed (instruction s n))) left m at h in
+      let (b, at′, more-bs, e₁, e₂, is) = within-took length (block s (placed (instruction s n))) left m at h in
       let (k, m′, e₃, e₄) = then-took (atMost s left at) (λ k m. many k (placed (instruction s n)) m) e₁ in
       let counted = alone (upTo-spells ok left overLimit) at m′ k e₃ in
       let (here, on) = many-each (instruction s n) (instruction-forward n) from k m′ b at′ (omega (arith, stand-forward s at (W.number k) m′ (counted .stands))) e₄ in

@@ -7,7 +7,7 @@ use lib.ListN.{length, length-append}
 use borrow.Author.Tests.{leb-true}
 use Rattle.value.specs.Refusal.{overLimit}
 use Rattle.image.specs.Parse.{took, Placed, many, within, placed}
-use Rattle.image.specs.Fields.{atMost, known, listOf}
+use Rattle.image.specs.Fields.{atMost, listed, known, listOf}
 use Rattle.image.specs.Program.{Instruction}
 use Rattle.image.specs.Image.{Counts, Image, versions, header, instruction, blocks, image}
 use Rattle.loader.proofs.Turn.{then-took, within-took, within-done}
@@ -28,7 +28,7 @@ pub record Few (n : Counts) : Type 0 where
 header-few : (s : List ℕ) (at : ℕ) (n : Counts) (e : ℕ) → header s at ≡ took n e → Few n
 unfolding header
 header-few s at n e h =
-    let (v, m₁, e₁, h₁) = then-took (known s versions at) _ h in
+    let (v, m₁, e₁, h₁) = then-took (known s (listed versions) at) _ h in
     let (a, m₂, e₂, h₂) = then-took (atMost s 256 m₁) _ h₁ in
     let (b, m₃, e₃, h₃) = then-took (atMost s 64 m₂) _ h₂ in
     let (c, m₄, e₄, h₄) = then-took (atMost s 64 m₃) _ h₃ in

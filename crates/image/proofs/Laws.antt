@@ -7,7 +7,7 @@ use mathlib.Core.List.{List, _∷_}
 use Rattle.value.specs.Answer.{pick}
 use Rattle.image.specs.Parse.{Got, took, refused, Field, andThen, _>>=_, _<$>_, _<*>_, two, three, four, five, many, placed}
 use Rattle.image.specs.Number.{number}
-use Rattle.image.specs.Fields.{such}
+use Rattle.image.specs.Fields.{such, tested}
 use Rattle.image.specs.Answer.{shape, after, orElse, walk, placeOf}
 use Rattle.image.specs.declared.field.Step.{Step}
 use Rattle.image.specs.declared.field.Step.the-variants.{At, Stop}
@@ -90,10 +90,6 @@ module _ {A : Type 0} (p : Field A) where
   many-more n c₀ c c′ e f = rw add-one (f ∙ ap (walk p) e ∙ sym (many-last n c₀))
 
 -- ---- numbers that pass a test
-
--- a number that was read, tested at its place
-abbrev tested : (ℕ → Bool) → (why place : ℕ) → Got ℕ → Got ℕ
-tested test why q g = andThen g (λ v n. pick (test v) (took v n) (refused why q))
 
 module _ (s : List ℕ) (test : ℕ → Bool) (why : ℕ) (c : Step) where
   such-after : after c (such s test why) ≡ tested test why (placeOf c) (after c (number s))

@@ -5,21 +5,23 @@ use native.Mathlib.Decide.{decLe}
 use native.Mathlib.Omega.{arith}
 use mathlib.Core.Bool.{Bool, true, false}
 use mathlib.Core.Path.{_≡_, refl, sym, ap, subst, _∙_}
-use mathlib.Core.List.{List, [], _∷_, _++_, map, append-assoc, append-nil}
+use mathlib.Core.List.{List, [], _∷_, _++_, append-assoc, append-nil}
 use mathlib.Core.Option.{Option, none, some}
 use lib.ListN.{length, getD}
 use borrow.Author.Tests.{ltb-true, le-leb}
 use Rattle.value.specs.Answer.{pick}
 use Rattle.value.specs.Refusal.{unknown, overLimit, beyondCount}
 use Rattle.value.specs.Value.{Kind, IrType, IntCmp, FloatCmp, value, kindOf, tag}
-use Rattle.value.specs.Tags.{kinds, typeOfKind, holds, intCmps, floatCmps}
+use Rattle.value.specs.Tags.{typeAt, holds, intCmpAt, floatCmpAt, intCmpNumber, floatCmpNumber}
+use Rattle.value.proofs.Tags.{kind-of-tag, tag-some, type-of-tag}
+use Rattle.value.proofs.Comparisons.{int-of-number, float-of-number}
 use Rattle.value.proofs.Roundtrip.{scalar-small}
-use Rattle.image.specs.Parse.{Got, took, refused, Field, andThen, give, _>>=_, one}
+use Rattle.image.specs.Parse.{Got, took, refused, Field, andThen, give, _>>=_}
 use Rattle.image.specs.Number.{number, bytesOf, bytesFrom}
-use Rattle.image.specs.Fields.{known, optional, listOf, bytes, atEnd}
-use Rattle.image.specs.Image.{Counts, types, versions, flags, items, flagsOf, mostParameters, header, literalOf, u32, size, type, var, label, constant, callee, operand, slot, branch, declared, table, instruction, function, loaded}
+use Rattle.image.specs.Fields.{listed, known, optional, listOf, bytes, atEnd}
+use Rattle.image.specs.Image.{Counts, versions, flags, items, flagsOf, mostParameters, header, literalOf, u32, size, type, var, label, constant, callee, block, form, operand, slot, branch, declared, table, instruction, function, loaded}
 use Rattle.image.specs.Program.{Program, Operand, literal, Slot, Branch, Declared, Item, Function, Instruction, Jump, Switch, Assign, ConstantAddress, Call, Return, IntCmp′, FloatCmp′, Add, Sub, Mul, Div, Mod, FDiv, Not, Negate, Offset, Initialize, Write, Read, Copy, Drop}
-use Rattle.image.specs.Written.{Piece, num, raw, counted, maybe, lengthAnd, flagNumber, itemNumber, typeNumber, intCmpNumber, floatCmpNumber, spelt, pieces, written}
+use Rattle.image.specs.Written.{Piece, num, raw, counted, maybe, lengthAnd, flagNumber, itemNumber, typeNumber, spelt, pieces, written}
 use Rattle.image.specs.Written as W
 use Rattle.image.specs.Limits.{Each, UpTo, IfAny, Flagged, IsByte, IsSize, IsU32, IsVariable, IsLabel, IsConstant, IsFunction, IsOperand, IsSlot, IsBranch, IsDeclared, IsInstruction, IsFunctionItem, countsOf, WithinLimits, AreBytes}
 use Rattle.image.proofs.Takes.{Takes, each-append, then-takes, give-takes, same-pieces, map-takes, two-takes, three-takes, four-takes, five-takes, number-takes, such-takes, below-takes, upTo-takes, known-takes, tabled-takes, optional-takes, many-takes, list-takes, bytes-takes, within-takes}
@@ -32,40 +34,42 @@ use Rattle.image.proofs.Plain.{plain, plainParts, loaded-plain}
 
 -- ---- names that stand for a number
 
-type-at : (t : IrType) → (getD types (tag (kindOf t)) none ≡ some t) × (tag (kindOf t) < 2 ^ 64)
-unfolding tag kindOf typeOfKind
-type-at IrType.Boolean = (refl, omega arith)
-type-at IrType.U8 = (refl, omega arith)
-type-at IrType.U16 = (refl, omega arith)
-type-at IrType.U32 = (refl, omega arith)
-type-at IrType.U64 = (refl, omega arith)
-type-at IrType.I8 = (refl, omega arith)
-type-at IrType.I16 = (refl, omega arith)
-type-at IrType.I32 = (refl, omega arith)
-type-at IrType.I64 = (refl, omega arith)
-type-at IrType.F32 = (refl, omega arith)
-type-at IrType.F64 = (refl, omega arith)
-type-at IrType.Pointer = (refl, omega arith)
+tag-small : (k : Kind) → tag k < 2 ^ 64
+unfolding tag
+tag-small Kind.bool = omega arith
+tag-small Kind.u8 = omega arith
+tag-small Kind.u16 = omega arith
+tag-small Kind.u32 = omega arith
+tag-small Kind.u64 = omega arith
+tag-small Kind.i8 = omega arith
+tag-small Kind.i16 = omega arith
+tag-small Kind.i32 = omega arith
+tag-small Kind.i64 = omega arith
+tag-small Kind.f32 = omega arith
+tag-small Kind.f64 = omega arith
+tag-small Kind.char = omega arith
+tag-small Kind.asn = omega arith
+tag-small Kind.pointer = omega arith
 
-intCmp-at : (c : IntCmp) → (getD intCmps (intCmpNumber c) none ≡ some c) × (intCmpNumber c < 2 ^ 64)
-intCmp-at IntCmp.Eq = (refl, omega arith)
-intCmp-at IntCmp.Ne = (refl, omega arith)
-intCmp-at IntCmp.ULt = (refl, omega arith)
-intCmp-at IntCmp.ULe = (refl, omega arith)
-intCmp-at IntCmp.UGt = (refl, omega arith)
-intCmp-at IntCmp.UGe = (refl, omega arith)
-intCmp-at IntCmp.SLt = (refl, omega arith)
-intCmp-at IntCmp.SLe = (refl, omega arith)
-intCmp-at IntCmp.SGt = (refl, omega arith)
-intCmp-at IntCmp.SGe = (refl, omega arith)
+int-small : (c : IntCmp) → intCmpNumber c < 2 ^ 64
+int-small IntCmp.Eq = omega arith
+int-small IntCmp.Ne = omega arith
+int-small IntCmp.ULt = omega arith
+int-small IntCmp.ULe = omega arith
+int-small IntCmp.UGt = omega arith
+int-small IntCmp.UGe = omega arith
+int-small IntCmp.SLt = omega arith
+int-small IntCmp.SLe = omega arith
+int-small IntCmp.SGt = omega arith
+int-small IntCmp.SGe = omega arith
 
-floatCmp-at : (c : FloatCmp) → (getD floatCmps (floatCmpNumber c) none ≡ some c) × (floatCmpNumber c < 2 ^ 64)
-floatCmp-at FloatCmp.FEq = (refl, omega arith)
-floatCmp-at FloatCmp.FNe = (refl, omega arith)
-floatCmp-at FloatCmp.FLt = (refl, omega arith)
-floatCmp-at FloatCmp.FLe = (refl, omega arith)
-floatCmp-at FloatCmp.FGt = (refl, omega arith)
-floatCmp-at FloatCmp.FGe = (refl, omega arith)
+float-small : (c : FloatCmp) → floatCmpNumber c < 2 ^ 64
+float-small FloatCmp.FEq = omega arith
+float-small FloatCmp.FNe = omega arith
+float-small FloatCmp.FLt = omega arith
+float-small FloatCmp.FLe = omega arith
+float-small FloatCmp.FGt = omega arith
+float-small FloatCmp.FGe = omega arith
 
 flag-at : (i : Item) (b : Bool) → Flagged i b → (getD (flagsOf i) (flagNumber b) none ≡ some b) × (flagNumber b < 2 ^ 64)
 unfolding Flagged
@@ -108,36 +112,18 @@ pub record Countable (n : Counts) : Type 0 where
   pub functions : n .functions ≤ 2 ^ 64
   pub blocks : n .blocks ≤ 2 ^ 64
 
--- what an operand's tag says of its second field
-abbrev forms : List ℕ → Counts → List (Option (Field Operand))
-forms s n = some (one Operand.variable (var s n)) ∷ map (λ k. some (literalOf s k)) kinds
-
-form-at : (s : List ℕ) (n : Counts) (k : Kind) → (getD (forms s n) (tag k) none ≡ some (literalOf s k)) × (tag k < 2 ^ 64)
-unfolding tag
-form-at s n Kind.bool = (refl, omega arith)
-form-at s n Kind.u8 = (refl, omega arith)
-form-at s n Kind.u16 = (refl, omega arith)
-form-at s n Kind.u32 = (refl, omega arith)
-form-at s n Kind.u64 = (refl, omega arith)
-form-at s n Kind.i8 = (refl, omega arith)
-form-at s n Kind.i16 = (refl, omega arith)
-form-at s n Kind.i32 = (refl, omega arith)
-form-at s n Kind.i64 = (refl, omega arith)
-form-at s n Kind.f32 = (refl, omega arith)
-form-at s n Kind.f64 = (refl, omega arith)
-form-at s n Kind.char = (refl, omega arith)
-form-at s n Kind.asn = (refl, omega arith)
-form-at s n Kind.pointer = (refl, omega arith)
+form-at : (s : List ℕ) (n : Counts) (k : Kind) → form s n (tag k) ≡ some (literalOf s k)
+form-at s n k = rw (tag-some k, kind-of-tag k)
 
 module _ {s : List ℕ} where
   type-takes : (t : IrType) → Takes s (type s) (W.number (typeNumber t)) t
   unfolding type
-  type-takes t = known-takes types (tag (kindOf t)) (type-at t .1) (type-at t .0)
+  type-takes t = known-takes typeAt (tag (kindOf t)) (tag-small (kindOf t)) (type-of-tag t)
 
-  flag-takes : (i : Item) (b : Bool) → Flagged i b → Takes s (known s (flagsOf i)) (W.number (flagNumber b)) b
-  flag-takes i b h = known-takes (flagsOf i) (flagNumber b) (flag-at i b h .1) (flag-at i b h .0)
+  flag-takes : (i : Item) (b : Bool) → Flagged i b → Takes s (known s (listed (flagsOf i))) (W.number (flagNumber b)) b
+  flag-takes i b h = known-takes (listed (flagsOf i)) (flagNumber b) (flag-at i b h .1) (flag-at i b h .0)
 
-  signed-takes : (b : Bool) → Takes s (known s flags) (W.number (flagNumber b)) b
+  signed-takes : (b : Bool) → Takes s (known s (listed flags)) (W.number (flagNumber b)) b
   unfolding Flagged
   signed-takes b = flag-takes Item.function b tt
 
@@ -172,8 +158,8 @@ module _ {s : List ℕ} where
 
     operand-takes : (o : Operand) → IsOperand n o → Takes s (operand s n) (W.operand o) o
     unfolding operand IsOperand
-    operand-takes (Operand.variable v) h = tabled-takes (forms s n) 0 (omega arith) refl (map-takes Operand.variable (var-takes h))
-    operand-takes (literal v) h = tabled-takes (forms s n) (tag (v .kind)) (form-at s n (v .kind) .1) (form-at s n (v .kind) .0) (bits-takes (v .kind) (v .bits) h)
+    operand-takes (Operand.variable v) h = tabled-takes (form s n) 0 (omega arith) refl (map-takes Operand.variable (var-takes h))
+    operand-takes (literal v) h = tabled-takes (form s n) (tag (v .kind)) (tag-small (v .kind)) (form-at s n (v .kind)) (bits-takes (v .kind) (v .bits) h)
 
     slot-takes : (a : Slot) → IsSlot n a → Takes s (slot s n) (W.slot a) a
     unfolding slot
@@ -198,7 +184,7 @@ module _ {s : List ℕ} where
     -- an opcode's number, and its fields
     opcode : {p : Field Instruction} {x : List Piece} {i : Instruction} (k : ℕ) → k < 2 ^ 64 → getD (table s n) k none ≡ some p → Takes s p x i → Takes s (instruction s n) (num k ∷ x) i
     unfolding instruction
-    opcode k l m t = tabled-takes (table s n) k l m t
+    opcode k l m t = tabled-takes (listed (table s n)) k l m t
 
     instruction-takes : (i : Instruction) → IsInstruction n i → Takes s (instruction s n) (W.instruction i) i
     unfolding table W.instruction IsInstruction
@@ -215,10 +201,10 @@ module _ {s : List ℕ} where
     instruction-takes (Return o) h = opcode 5 (omega arith) refl (map-takes Return (maybe-operand o h))
     instruction-takes (IntCmp′ to cmp a b) h =
         opcode 6 (omega arith) refl
-        (four-takes IntCmp′ (var-takes (h .0)) (known-takes intCmps (intCmpNumber cmp) (intCmp-at cmp .1) (intCmp-at cmp .0)) (operand-takes a (h .1)) (operand-takes b (h .2)))
+        (four-takes IntCmp′ (var-takes (h .0)) (known-takes intCmpAt (intCmpNumber cmp) (int-small cmp) (int-of-number cmp)) (operand-takes a (h .1)) (operand-takes b (h .2)))
     instruction-takes (FloatCmp′ to cmp a b) h =
         opcode 7 (omega arith) refl
-        (four-takes FloatCmp′ (var-takes (h .0)) (known-takes floatCmps (floatCmpNumber cmp) (floatCmp-at cmp .1) (floatCmp-at cmp .0)) (operand-takes a (h .1)) (operand-takes b (h .2)))
+        (four-takes FloatCmp′ (var-takes (h .0)) (known-takes floatCmpAt (floatCmpNumber cmp) (float-small cmp) (float-of-number cmp)) (operand-takes a (h .1)) (operand-takes b (h .2)))
     instruction-takes (Add to a b) h = opcode 8 (omega arith) refl (three-takes Add (var-takes (h .0)) (operand-takes a (h .1)) (operand-takes b (h .2)))
     instruction-takes (Sub to a b) h = opcode 9 (omega arith) refl (three-takes Sub (var-takes (h .0)) (operand-takes a (h .1)) (operand-takes b (h .2)))
     instruction-takes (Mul to a b) h = opcode 10 (omega arith) refl (three-takes Mul (var-takes (h .0)) (operand-takes a (h .1)) (operand-takes b (h .2)))
@@ -243,7 +229,7 @@ module _ {s : List ℕ} where
     unfolding function W.function
     function-takes f h =
         same-pieces (simp append-nil)
-        (then-takes _ (known-takes items (itemNumber (f .item)) (item-at (f .item) .1) (item-at (f .item) .0))
+        (then-takes _ (known-takes (listed items) (itemNumber (f .item)) (item-at (f .item) .1) (item-at (f .item) .0))
         (then-takes _ (label-takes (h .entry))
         (then-takes _ (var-takes (h .returnVar))
         (then-takes _ (var-takes (h .contextVar))
@@ -281,7 +267,7 @@ module _ {s : List ℕ} where
   unfolding header
   header-takes n v c f b =
       same-pieces (simp append-nil)
-      (then-takes _ (known-takes versions 1 (omega arith) refl)
+      (then-takes _ (known-takes (listed versions) 1 (omega arith) refl)
       (then-takes _ (upTo-takes 256 overLimit (omega arith) v)
       (then-takes _ (upTo-takes 64 overLimit (omega arith) c)
       (then-takes _ (upTo-takes 64 overLimit (omega arith) f)
@@ -300,7 +286,7 @@ module _ {s : List ℕ} where
       (then-finishes _ (header-takes (countsOf P) (h .variableCount) (h .constantCount) (h .functionCount) (h .blockCount))
       (then-finishes _ (within-takes (bytes s) lengthAnd (Each IsByte) constant-bytes (P .constants) 8192 (omega arith) (h .constants) (h .constantBytes))
       (then-finishes _ (many-takes (function s n) W.function (IsFunctionItem n) (function-takes small) (P .functions) (h .functions))
-      (then-finishes _ (within-takes (λ left. listOf s left (instruction s n)) (counted W.instruction) (Each (IsInstruction n))
+      (then-finishes _ (within-takes (block s (instruction s n)) (counted W.instruction) (Each (IsInstruction n))
       (λ left l b k m. list-takes left (instruction s n) W.instruction (IsInstruction n) l (instruction-takes small) b (m, k)) (P .blocks) 4096 (omega arith) (h .blocks) (h .instructionCount))
       end-finishes))))
 

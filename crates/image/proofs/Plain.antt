@@ -9,7 +9,7 @@ use Rattle.value.specs.Answer.{pick}
 use Rattle.value.specs.Refusal.{overLimit}
 use Rattle.image.specs.Parse.{Got, took, refused, Field, Placed, andThen, give, many, within, placed, _>>=_, _<$>_}
 use Rattle.image.specs.Fields.{atMost, listOf, bytes, atEnd}
-use Rattle.image.specs.Image.{Counts, header, function, constants, blocks, instruction, whole, image, programOf, loaded}
+use Rattle.image.specs.Image.{Counts, header, function, constants, block, blocks, instruction, unlessLong, whole, image, programOf, loaded}
 use Rattle.image.specs.Program.{Program}
 
 module _ (s : List ℕ) where
@@ -18,7 +18,7 @@ module _ (s : List ℕ) where
   plainParts n = do
     constants ← within length 8192 (n .constants) (bytes s)
     functions ← many (n .functions) (function s n)
-    blocks ← within length 4096 (n .blocks) (λ left. listOf s left (instruction s n))
+    blocks ← within length 4096 (n .blocks) (block s (instruction s n))
     end ← atEnd s
     give (record { variables = n .variables; constants = constants; functions = functions; blocks = blocks })
 
@@ -105,12 +105,12 @@ module _ (s : List ℕ) where
       (seen-within (λ c. c .item) (λ c. length (c .item)) length (λ c. refl) (λ left. placed (bytes s left)) (bytes s) (λ left. seen-placed (bytes s left)) 8192 (n .constants)) _ _
       (λ cs. seen-then (map (λ f. f .item)) programOf (many (n .functions) (placed (function s n))) (many (n .functions) (function s n))
       (seen-many (λ f. f .item) (placed (function s n)) (function s n) (seen-placed (function s n)) (n .functions)) _ _
-      (λ fs. seen-then (map (map (λ i. i .item))) programOf (blocks s n) (within length 4096 (n .blocks) (λ left. listOf s left (instruction s n)))
-      (seen-within (map (λ i. i .item)) length length (λ b. sym (length-map b (λ i. i .item))) (λ left. listOf s left (placed (instruction s n))) (λ left. listOf s left (instruction s n))
+      (λ fs. seen-then (map (map (λ i. i .item))) programOf (blocks s n) (within length 4096 (n .blocks) (block s (instruction s n)))
+      (seen-within (map (λ i. i .item)) length length (λ b. sym (length-map b (λ i. i .item))) (block s (placed (instruction s n))) (block s (instruction s n))
       (λ left. seen-list (λ i. i .item) s left (placed (instruction s n)) (instruction s n) (seen-placed (instruction s n))) 4096 (n .blocks)) _ _
       (λ bs. seen-then (λ e. e) programOf (atEnd s) (atEnd s) (seen-itself (atEnd s)) _ _ (λ e at. refl)))))
 
-  pub loaded-plain : loaded s ≡ pick (leb (length s) 32768) (plain s 0) (refused overLimit 0)
+  pub loaded-plain : loaded s ≡ unlessLong (length s) (plain s 0)
   unfolding loaded image andThen
   loaded-plain = by-test (leb (length s) 32768)
     where

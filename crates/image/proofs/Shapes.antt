@@ -11,10 +11,10 @@ use lib.Dec.{ltb, leb, eqb, leb·suc-suc}
 use borrow.Author.Tests.{eq-eqb, ne-eqb, leb-true, lt-ltb, le-ltb}
 use Rattle.value.specs.Answer.{pick}
 use Rattle.value.specs.Refusal.{unknown}
+use Rattle.value.specs.Tags.{typeAt}
 use Rattle.image.specs.Parse.{Got, took, refused, Field, andThen, _>>=_, _<$>_, give, many, within}
 use Rattle.image.specs.Number.{number}
-use Rattle.image.specs.Fields.{such, below, upTo, atMost, meant, known, optional, listOf, bytes, raw}
-use Rattle.image.specs.Image.{types}
+use Rattle.image.specs.Fields.{such, below, upTo, atMost, meant, listed, known, optional, listOf, bytes, raw}
 use Rattle.image.specs.Answer.{shape, after, orElse, walk, placeOf, isSome, isType}
 use Rattle.image.specs.declared.field.Step.{Step}
 use Rattle.image.specs.declared.field.Step.the-variants.{At, Stop}
@@ -33,21 +33,21 @@ such-same s test test′ why h (At at) = by-got (number s at)
 -- ---- numbers that stand for something
 
 -- what stands for something is what passes the test
-pub known-such : {A : Type 0} (s : List ℕ) (items : List (Option A)) (test : ℕ → Bool) → ((v : ℕ) → isSome (getD items v none) ≡ test v)
-    → (c : Step) → walk (known s items) c ≡ walk (such s test unknown) c
+pub known-such : {A : Type 0} (s : List ℕ) (item : ℕ → Option A) (test : ℕ → Bool) → ((v : ℕ) → isSome (item v) ≡ test v)
+    → (c : Step) → walk (known s item) c ≡ walk (such s test unknown) c
 unfolding known such andThen
-known-such s items test h (Stop n q) = refl
-known-such {A} s items test h (At at) = whole
+known-such s item test h (Stop n q) = refl
+known-such {A} s item test h (At at) = whole
   where
     by-item : (o : Option A) (v n : ℕ) → shape (meant o at n) ≡ shape (pick (isSome o) (took v n) (refused unknown at))
     by-item none v n = refl
     by-item (some a) v n = refl
 
-    by-got : (g : Got ℕ) → shape (andThen g (λ v n. meant (getD items v none) at n)) ≡ shape (andThen g (λ v n. pick (test v) (took v n) (refused unknown at)))
-    by-got (took v n) = by-item (getD items v none) v n ∙ ap (λ (b : Bool). shape (pick b (took v n) (refused unknown at))) (h v)
+    by-got : (g : Got ℕ) → shape (andThen g (λ v n. meant (item v) at n)) ≡ shape (andThen g (λ v n. pick (test v) (took v n) (refused unknown at)))
+    by-got (took v n) = by-item (item v) v n ∙ ap (λ (b : Bool). shape (pick b (took v n) (refused unknown at))) (h v)
     by-got (refused k q) = refl
 
-    whole : shape (known s items at) ≡ shape (such s test unknown at)
+    whole : shape (known s item at) ≡ shape (such s test unknown at)
     whole = by-got (number s at)
 
 each-known : {A : Type 0} (xs : List A) (v : ℕ) → isSome (getD (map some xs) v none) ≡ ltb v (length xs)
@@ -56,12 +56,12 @@ each-known (x ∷ xs) zero = sym (lt-ltb 0 (suc (length xs)) (omega arith))
 each-known (x ∷ xs) (suc v) = each-known xs v ∙ sym (leb·suc-suc (suc v) (length xs))
 
 -- items at every position from 0 on
-pub known-below : {A : Type 0} (s : List ℕ) (xs : List A) (c : Step) → walk (known s (map some xs)) c ≡ walk (below s (length xs) unknown) c
-known-below s xs c = known-such s (map some xs) (λ v. ltb v (length xs)) (each-known xs) c
+pub known-below : {A : Type 0} (s : List ℕ) (xs : List A) (c : Step) → walk (known s (listed (map some xs))) c ≡ walk (below s (length xs) unknown) c
+known-below s xs c = known-such s (listed (map some xs)) (λ v. ltb v (length xs)) (each-known xs) c
 
 -- the item that the number stands for, and the first where it was refused
 pub known-item : {A : Type 0} (s : List ℕ) (a : A) (xs : List A) (c : Step)
-    → orElse a (after c (known s (map some (a ∷ xs)))) ≡ getD (a ∷ xs) (orElse 0 (after c (below s (length (a ∷ xs)) unknown))) a
+    → orElse a (after c (known s (listed (map some (a ∷ xs))))) ≡ getD (a ∷ xs) (orElse 0 (after c (below s (length (a ∷ xs)) unknown))) a
 unfolding known such andThen
 known-item s a xs (Stop n q) = refl
 known-item {A} s a xs (At at) = by-got (number s at)
@@ -87,43 +87,43 @@ known-item {A} s a xs (At at) = by-got (number s at)
     by-got (refused k q) = refl
 
 -- an item at position 1 alone
-pub known-only : {A : Type 0} (s : List ℕ) (a : A) (c : Step) → walk (known s (none ∷ some a ∷ [])) c ≡ walk (such s (λ v. eqb v 1) unknown) c
-known-only s a c = known-such s (none ∷ some a ∷ []) (λ v. eqb v 1) one-alone c
+pub known-only : {A : Type 0} (s : List ℕ) (a : A) (c : Step) → walk (known s (listed (none ∷ some a ∷ []))) c ≡ walk (such s (λ v. eqb v 1) unknown) c
+known-only s a c = known-such s (listed (none ∷ some a ∷ [])) (λ v. eqb v 1) one-alone c
   where
     one-alone : (v : ℕ) → isSome (getD (none ∷ some a ∷ []) v none) ≡ eqb v 1
     one-alone zero = refl
     one-alone (suc zero) = refl
     one-alone (suc (suc n)) = sym (ne-eqb (suc (suc n)) 1 (λ e. omega arith))
 
-pub known-type : (s : List ℕ) (c : Step) → walk (known s types) c ≡ walk (such s isType unknown) c
+pub known-type : (s : List ℕ) (c : Step) → walk (known s typeAt) c ≡ walk (such s isType unknown) c
 unfolding isType
-known-type s c = known-such s types isType (λ v. refl) c
+known-type s c = known-such s typeAt isType (λ v. refl) c
 
 -- ---- forms that a number chooses
 
-module _ {A : Type 0} (s : List ℕ) (rows : List (Option (Field A))) (v : ℕ) where
-  choose : (g : Got ℕ) (at : ℕ) (row : Field A) → v ≡ orElse 0 g → getD rows v none ≡ some row
-      → shape (andThen (andThen g (λ v n. meant (getD rows v none) at n)) (λ p n. p n)) ≡ walk row (shape g)
+module _ {A : Type 0} (s : List ℕ) (row-of : ℕ → Option (Field A)) (v : ℕ) where
+  choose : (g : Got ℕ) (at : ℕ) (row : Field A) → v ≡ orElse 0 g → row-of v ≡ some row
+      → shape (andThen (andThen g (λ v n. meant (row-of v) at n)) (λ p n. p n)) ≡ walk row (shape g)
   unfolding andThen
   choose (took u n) at row e h = rw (sym e, h)
   choose (refused k q) at row e h = refl
 
-  choose-none : (g : Got ℕ) (at : ℕ) → v ≡ orElse 0 g → getD rows v none ≡ none → (v ≡ 0 → ⊥)
-      → shape (andThen (andThen g (λ v n. meant (getD rows v none) at n)) (λ p n. p n)) ≡ Stop unknown at
+  choose-none : (g : Got ℕ) (at : ℕ) → v ≡ orElse 0 g → row-of v ≡ none → (v ≡ 0 → ⊥)
+      → shape (andThen (andThen g (λ v n. meant (row-of v) at n)) (λ p n. p n)) ≡ Stop unknown at
   unfolding andThen
   choose-none (took u n) at e h z = rw (sym e, h)
   choose-none (refused k q) at e h z = absurd (z e)
 
   -- the number's row
-  pub chosen : (c : Step) (row : Field A) → v ≡ orElse 0 (after c (number s)) → getD rows v none ≡ some row
-      → walk (known s rows >>= λ p. p) c ≡ walk row (walk (number s) c)
+  pub chosen : (c : Step) (row : Field A) → v ≡ orElse 0 (after c (number s)) → row-of v ≡ some row
+      → walk (known s row-of >>= λ p. p) c ≡ walk row (walk (number s) c)
   unfolding known
   chosen (At at) row e h = choose (number s at) at row e h
   chosen (Stop k q) row e h = refl
 
   -- a number that has no row
-  pub chosen-none : (c : Step) → v ≡ orElse 0 (after c (number s)) → getD rows v none ≡ none → (v ≡ 0 → ⊥)
-      → walk (known s rows >>= λ p. p) c ≡ Stop unknown (placeOf c)
+  pub chosen-none : (c : Step) → v ≡ orElse 0 (after c (number s)) → row-of v ≡ none → (v ≡ 0 → ⊥)
+      → walk (known s row-of >>= λ p. p) c ≡ Stop unknown (placeOf c)
   unfolding known
   chosen-none (At at) e h z = choose-none (number s at) at e h z
   chosen-none (Stop k q) e h z = absurd (z e)

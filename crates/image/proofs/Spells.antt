@@ -3,9 +3,9 @@ use Prim.Native.Nat.{ℕ, zero, suc, _+_, _-_, _^_, _≤_, _<_}
 use native.Mathlib.Omega.{arith}
 use mathlib.Core.Bool.{Bool, true}
 use mathlib.Core.Path.{_≡_, refl, sym, ap, subst, _∙_}
-use mathlib.Core.List.{List, [], _∷_, _++_}
+use mathlib.Core.List.{List, [], _∷_, _++_, flatten}
 use mathlib.Core.Option.{Option, none, some}
-use lib.ListN.{length, getD, take, drop, length-drop}
+use lib.ListN.{length, take, drop, length-append, length-drop}
 use lib.Seq.{length-take-le}
 use lib.Dec.{ltb, leb, eqb}
 use borrow.Author.Tests.{ltb-true, leb-true}
@@ -13,11 +13,11 @@ use Rattle.value.specs.Answer.{pick}
 use Rattle.value.specs.Refusal.{unknown, overLimit}
 use Rattle.image.specs.Parse.{took, refused, Field, give, many, within, _>>=_, _<$>_, one, two, three, four, five}
 use Rattle.image.specs.Number.{number}
-use Rattle.image.specs.Fields.{such, below, upTo, known, meant, optional, listOf, bytes}
+use Rattle.image.specs.Fields.{such, below, upTo, listed, known, meant, optional, listOf, bytes}
 use Rattle.image.specs.Fields as Fields
 use Rattle.image.specs.Written.{Piece, num, raw, each, counted, maybe, lengthAnd}
 use Rattle.image.specs.Written as W
-use Rattle.image.specs.Limits.{Each, UpTo, IfAny, IsByte, total, AreBytes}
+use Rattle.image.specs.Limits.{Each, UpTo, IfAny, IsByte, AreBytes}
 use Rattle.image.specs.Standing.{Stand}
 use Rattle.image.proofs.Round.{spelt}
 use Rattle.image.proofs.Parts.{parts, picked, same-value, same-place, two-right, three-right, four-right, five-right, Every, every-at, meant-some}
@@ -143,32 +143,37 @@ module _ {s : List ℕ} (bs : AreBytes s) where
   pub upTo-spells : (most why : ℕ) → Spells s [] (upTo s most why) W.number (λ v. v ≤ most)
   upTo-spells most why = onto (such-spells (λ v. leb v most) why) (λ v h. (refl, leb-true v most (h .1)))
 
--- the number of an item of a list
-index : (s : List ℕ) {A : Type 0} (law : ℕ → A → Type 0) (items : List (Option A)) → Every law items → (at next : ℕ) (a : A) → known s items at ≡ took a next
-    → (k : ℕ) × (number s at ≡ took k next) × law k a
+-- the number of what it stands for
+index : (s : List ℕ) {A : Type 0} (item : ℕ → Option A) (at next : ℕ) (a : A) → known s item at ≡ took a next → (k : ℕ) × (number s at ≡ took k next) × (item k ≡ some a)
 unfolding known
-index s {A} law items all at next a e =
-    let i = parts (number s at) (λ v next. meant (getD items v none) at next) a next e in
-    let j = meant-some (getD items (i .value) none) at (i .place) next a (i .then′) in
-    (i .value, i .first ∙ ap (took (i .value)) (j .1), every-at law items all (i .value) a (j .0))
+index s item at next a e =
+    let i = parts (number s at) (λ v next. meant (item v) at next) a next e in
+    let j = meant-some (item (i .value)) at (i .place) next a (i .then′) in
+    (i .value, i .first ∙ ap (took (i .value)) (j .1), j .0)
 
 module _ {s : List ℕ} where
-  -- a number that stands for an item
-  pub known-spells : {A : Type 0} (items : List (Option A)) (of : A → ℕ) (fit : A → Type 0) → Every (λ k a. (of a ≡ k) × fit a) items
-      → Spells s [] (known s items) (λ a. W.number (of a)) fit
-  known-spells {A} items of fit all =
+  -- a number that stands for something
+  pub known-spells : {A : Type 0} (item : ℕ → Option A) (of : A → ℕ) (fit : A → Type 0) → ((k : ℕ) (a : A) → item k ≡ some a → (of a ≡ k) × fit a)
+      → Spells s [] (known s item) (λ a. W.number (of a)) fit
+  known-spells {A} item of fit law =
       itself (λ at next a e.
-      let (k, reads, law) = index s (λ k a. (of a ≡ k) × fit a) items all at next a e in
-      ((next, reads ∙ ap (λ (n : ℕ). took n next) (sym (law .0)), refl), law .1))
+      let (k, reads, is) = index s item at next a e in
+      let (named, fits) = law k a is in
+      ((next, reads ∙ ap (λ (n : ℕ). took n next) (sym named), refl), fits))
+
+  -- by position in a list
+  pub listed-spells : {A : Type 0} (items : List (Option A)) (of : A → ℕ) (fit : A → Type 0) → Every (λ k a. (of a ≡ k) × fit a) items
+      → Spells s [] (known s (listed items)) (λ a. W.number (of a)) fit
+  listed-spells items of fit all = known-spells (listed items) of fit (every-at (λ k a. (of a ≡ k) × fit a) items all)
 
   -- a number that says which field follows
-  pub tabled-spells : {A : Type 0} (items : List (Option (Field A))) (w : A → List Piece) (ok : A → Type 0) → Every (λ k p. Spells s (W.number k) p w ok) items
-      → Spells s [] (known s items >>= λ p. p) w ok
-  tabled-spells {A} items w ok all =
+  pub tabled-spells : {A : Type 0} (row-of : ℕ → Option (Field A)) (w : A → List Piece) (ok : A → Type 0) → ((k : ℕ) (p : Field A) → row-of k ≡ some p → Spells s (W.number k) p w ok)
+      → Spells s [] (known s row-of >>= λ p. p) w ok
+  tabled-spells {A} row-of w ok law =
       itself (λ at next a e.
-      let i = parts (known s items at) (λ p. p) a next e in
-      let (k, reads, law) = index s (λ k p. Spells s (W.number k) p w ok) items all at (i .place) (i .value) (i .first) in
-      law .spells at (i .place) next a (i .place, reads, refl) (i .then′))
+      let i = parts (known s row-of at) (λ p. p) a next e in
+      let (k, reads, is) = index s row-of at (i .place) (i .value) (i .first) in
+      law k (i .value) is .spells at (i .place) next a (i .place, reads, refl) (i .then′))
 
 -- ---- shapes of fields
 
@@ -208,8 +213,8 @@ module _ {s : List ℕ} (bs : AreBytes s) where
 
   -- items with a limit over all
   pub within-spells : {A : Type 0} {p : ℕ → Field (List A)} {w : List A → List Piece} (ok : A → Type 0) → ((left : ℕ) → Spells s [] (p left) w (UpTo left ok)) → (left n : ℕ)
-      → Spells s [] (within length left n p) (each w) (λ xs. (length xs ≡ n) × Each (Each ok) xs × (total xs ≤ left))
-  unfolding within Each total
+      → Spells s [] (within length left n p) (each w) (λ xs. (length xs ≡ n) × Each (Each ok) xs × (length (flatten xs) ≤ left))
+  unfolding within Each flatten
   within-spells ok h left zero = last-spells refl (refl, tt, omega arith)
   within-spells ok h left (suc n) =
-      next-spells (h left) (λ x i. one-spells (λ xs. x ∷ xs) (within-spells ok h (left - length x) n) (λ xs j. (refl, (ap suc (j .0), (i .1, j .1), omega (arith, i .0, j .2)))))
+      next-spells (h left) (λ x i. one-spells (λ xs. x ∷ xs) (within-spells ok h (left - length x) n) (λ xs j. (refl, (ap suc (j .0), (i .1, j .1), omega (arith, i .0, j .2, length-append x (flatten xs))))))

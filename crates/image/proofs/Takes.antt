@@ -3,9 +3,9 @@ use Prim.Native.Nat.{ℕ, _-_, _^_, _≤_, _<_}
 use native.Mathlib.Omega.{arith}
 use mathlib.Core.Bool.{Bool, true}
 use mathlib.Core.Path.{_≡_, refl, ap, subst, _∙_}
-use mathlib.Core.List.{List, [], _∷_, _++_, append-nil}
+use mathlib.Core.List.{List, [], _∷_, _++_, flatten, append-nil}
 use mathlib.Core.Option.{Option, none, some}
-use lib.ListN.{length, getD}
+use lib.ListN.{length, length-append}
 use lib.Dec.{ltb, leb, eqb}
 use borrow.Author.Tests.{lt-ltb, le-leb}
 use Rattle.value.specs.Answer.{pick}
@@ -16,7 +16,7 @@ use Rattle.image.specs.Fields.{such, below, upTo, known, meant, optional
 use Rattle.image.specs.Fields as Fields
 use Rattle.image.specs.Written.{Piece, num, raw, each, counted, maybe, lengthAnd}
 use Rattle.image.specs.Written as W
-use Rattle.image.specs.Limits.{Each, UpTo, IfAny, IsByte, total}
+use Rattle.image.specs.Limits.{Each, UpTo, IfAny, IsByte}
 use Rattle.image.specs.Standing.{Stand}
 use Rattle.image.proofs.Standing.{Writable, stand-split}
 
@@ -108,18 +108,18 @@ module _ {s : List ℕ} where
   pub upTo-takes : (most why : ℕ) {v : ℕ} → most < 2 ^ 64 → v ≤ most → Takes s (upTo s most why) (W.number v) v
   upTo-takes most why {v} l h = such-takes (λ v. leb v most) why (omega arith) (le-leb v most h)
 
-  pub known-takes : {A : Type 0} (items : List (Option A)) {a : A} (k : ℕ) → k < 2 ^ 64 → getD items k none ≡ some a → Takes s (known s items) (W.number k) a
+  pub known-takes : {A : Type 0} (item : ℕ → Option A) {a : A} (k : ℕ) → k < 2 ^ 64 → item k ≡ some a → Takes s (known s item) (W.number k) a
   unfolding known andThen
-  known-takes {A} items {a} k h m = record {
+  known-takes {A} item {a} k h m = record {
     reads = λ at end st.
-        ap (λ (g : Got ℕ). andThen g (λ v next. meant (getD items v none) at next)) (number-read s k at end st) ∙ ap (λ (o : Option A). meant o at end) m;
+        ap (λ (g : Got ℕ). andThen g (λ v next. meant (item v) at next)) (number-read s k at end st) ∙ ap (λ (o : Option A). meant o at end) m;
     can = one-each Writable (num k) h;
   }
 
   -- a number that says which field follows
-  pub tabled-takes : {A : Type 0} (items : List (Option (Field A))) {p : Field A} {x : List Piece} {a : A} (k : ℕ) → k < 2 ^ 64 → getD items k none ≡ some p → Takes s p x a
-      → Takes s (known s items >>= λ p. p) (W.number k ++ x) a
-  tabled-takes items k h m t = then-takes (λ p. p) (known-takes items k h m) t
+  pub tabled-takes : {A : Type 0} (row-of : ℕ → Option (Field A)) {p : Field A} {x : List Piece} {a : A} (k : ℕ) → k < 2 ^ 64 → row-of k ≡ some p → Takes s p x a
+      → Takes s (known s row-of >>= λ p. p) (W.number k ++ x) a
+  tabled-takes row-of k h m t = then-takes (λ p. p) (known-takes row-of k h m) t
 
   -- ---- shapes of fields
 
@@ -151,9 +151,9 @@ module _ {s : List ℕ} where
 
   -- items with a limit over all
   pub within-takes : {A : Type 0} (p : ℕ → Field (List A)) (w : List A → List Piece) (ok : List A → Type 0) → ((left : ℕ) → left < 2 ^ 64 → (a : List A) → ok a → length a ≤ left → Takes s (p left) (w a) a)
-      → (xs : List (List A)) (left : ℕ) → left < 2 ^ 64 → Each ok xs → total xs ≤ left → Takes s (within length left (length xs) p) (each w xs) xs
-  unfolding within Each total
+      → (xs : List (List A)) (left : ℕ) → left < 2 ^ 64 → Each ok xs → length (flatten xs) ≤ left → Takes s (within length left (length xs) p) (each w xs) xs
+  unfolding within Each flatten
   within-takes p w ok t [] left l h m = give-takes
   within-takes p w ok t (x ∷ xs) left l h m =
-      then-takes (λ x. (λ xs. x ∷ xs) <$> within length (left - length x) (length xs) p) (t left l x (h .0) (omega arith))
-      (map-takes (λ xs. x ∷ xs) (within-takes p w ok t xs (left - length x) (omega arith) (h .1) (omega arith)))
+      then-takes (λ x. (λ xs. x ∷ xs) <$> within length (left - length x) (length xs) p) (t left l x (h .0) (omega (arith, length-append x (flatten xs))))
+      (map-takes (λ xs. x ∷ xs) (within-takes p w ok t xs (left - length x) (omega arith) (h .1) (omega (arith, length-append x (flatten xs)))))

@@ -1,58 +1,58 @@
 -- Each field that is taken stands as it would be written, and is within the limits, by the law of its shape. So writing an accepted program gives its
 -- image's bytes again.
-use Prim.Native.Nat.{ℕ, _^_, _≤_}
+use Prim.Native.Nat.{ℕ, zero, suc, _^_, _≤_}
 use native.Mathlib.Omega.{arith}
-use mathlib.Core.Bool.{true}
+use mathlib.Core.Bool.{Bool, true}
 use mathlib.Core.Path.{_≡_, refl, sym, ap, subst, _∙_}
-use mathlib.Core.List.{List, [], _∷_, _++_, map, append-nil}
-use mathlib.Core.Option.{some}
+use mathlib.Core.List.{List, [], _∷_, _++_, append-nil}
+use mathlib.Core.Option.{Option, none, some, Option·map, Option·some-injective, Option·none-ne-some}
 use lib.ListN.{length, drop-of-length-le}
 use lib.Dec.{leb}
-use borrow.Author.Tests.{leb-true}
+use borrow.Author.Tests.{ne-eqb, leb-true}
+use Rattle.value.specs.Answer.{pick}
 use Rattle.value.specs.Refusal.{unknown, overLimit, beyondCount, leftOver}
-use Rattle.value.specs.Value.{Kind, value, kindOf, tag}
-use Rattle.value.specs.Tags.{kinds, typeOfKind, holds, intCmps, floatCmps}
-use Rattle.image.specs.Parse.{took, one}
+use Rattle.value.specs.Value.{Kind, value, tag}
+use Rattle.value.specs.Tags.{kindAt, typeAt, holds, intCmps, floatCmps, intCmpAt, floatCmpAt, intCmpNumber, floatCmpNumber}
+use Rattle.value.proofs.Tags.{tag-of-kind, tag-of-type}
+use Rattle.image.specs.Parse.{took, Field, one}
 use Rattle.image.specs.Number.{number}
-use Rattle.image.specs.Fields.{known, atEnd}
-use Rattle.image.specs.Image.{Counts, types, versions, flags, items, flagsOf, mostParameters, header, literalOf, u32, size, type, var, label, constant, callee, operand, slot, branch, declared, table, instruction, function, loaded}
+use Rattle.image.specs.Fields.{listed, known, atEnd}
+use Rattle.image.specs.Image.{Counts, versions, flags, items, flagsOf, mostParameters, header, literalOf, u32, size, type, var, label, constant, callee, form, operand, slot, branch, declared, table, instruction, function, loaded}
 use Rattle.image.specs.Program.{Program, Operand, literal, Item, Jump, Switch, Assign, ConstantAddress, Call, Return, IntCmp′, FloatCmp′, Add, Sub, Mul, Div, Mod, FDiv, Not, Negate, Offset, Initialize, Write, Read, Copy, Drop}
-use Rattle.image.specs.Written.{Piece, num, flagNumber, itemNumber, typeNumber, intCmpNumber, floatCmpNumber, pieces, written, spelt}
+use Rattle.image.specs.Written.{Piece, num, flagNumber, itemNumber, typeNumber, pieces, written, spelt}
 use Rattle.image.specs.Written as W
 use Rattle.image.specs.Limits.{Each, Flagged, IsByte, IsSize, IsU32, IsVariable, IsLabel, IsConstant, IsFunction, IsOperand, IsSlot, IsBranch, IsDeclared, IsInstruction, IsFunctionItem, countsOf, WithinLimits, AreBytes}
-use Rattle.image.proofs.Spells.{Spells, alone, itself, next-spells, last-spells, one-spells, two-spells, three-spells, four-spells, five-spells, number-spells, such-spells, below-spells, upTo-spells, known-spells, tabled-spells, optional-spells, many-spells, list-spells, bytes-spells, within-spells}
-use Rattle.image.proofs.Parts.{Every, parts, picked, same-place}
+use Rattle.image.proofs.Spells.{Spells, alone, itself, next-spells, last-spells, one-spells, two-spells, three-spells, four-spells, five-spells, number-spells, such-spells, below-spells, upTo-spells, known-spells, listed-spells, tabled-spells, optional-spells, many-spells, list-spells, bytes-spells, within-spells}
+use Rattle.image.proofs.Parts.{Every, every-at, parts, picked, same-place}
 use Rattle.image.proofs.Standing.{stand-bytes}
 use Rattle.image.proofs.Plain.{plain, plainParts, loaded-plain}
 
 module _ {s : List ℕ} (bs : AreBytes s) where
   type-spells : Spells s [] (type s) (λ t. W.number (typeNumber t)) (λ t. Unit)
-  unfolding type Every tag kindOf typeOfKind
-  type-spells =
-      known-spells types typeNumber (λ t. Unit)
-      ((refl, tt), ((refl, tt), ((refl, tt), ((refl, tt), ((refl, tt), ((refl, tt), ((refl, tt), ((refl, tt), ((refl, tt), ((refl, tt), ((refl, tt), ((refl, tt), tt))))))))))))
+  unfolding type
+  type-spells = known-spells typeAt typeNumber (λ t. Unit) (λ k t e. (tag-of-type k t e, tt))
 
-  intCmp-spells : Spells s [] (known s intCmps) (λ c. W.number (intCmpNumber c)) (λ c. Unit)
-  unfolding Every
+  intCmp-spells : Spells s [] (known s intCmpAt) (λ c. W.number (intCmpNumber c)) (λ c. Unit)
+  unfolding intCmpAt Every
   intCmp-spells =
-      known-spells intCmps intCmpNumber (λ c. Unit)
+      listed-spells intCmps intCmpNumber (λ c. Unit)
       ((refl, tt), ((refl, tt), ((refl, tt), ((refl, tt), ((refl, tt), ((refl, tt), ((refl, tt), ((refl, tt), ((refl, tt), ((refl, tt), tt))))))))))
 
-  floatCmp-spells : Spells s [] (known s floatCmps) (λ c. W.number (floatCmpNumber c)) (λ c. Unit)
-  unfolding Every
-  floatCmp-spells = known-spells floatCmps floatCmpNumber (λ c. Unit) ((refl, tt), ((refl, tt), ((refl, tt), ((refl, tt), ((refl, tt), ((refl, tt), tt))))))
+  floatCmp-spells : Spells s [] (known s floatCmpAt) (λ c. W.number (floatCmpNumber c)) (λ c. Unit)
+  unfolding floatCmpAt Every
+  floatCmp-spells = listed-spells floatCmps floatCmpNumber (λ c. Unit) ((refl, tt), ((refl, tt), ((refl, tt), ((refl, tt), ((refl, tt), ((refl, tt), tt))))))
 
-  flag-spells : (i : Item) → Spells s [] (known s (flagsOf i)) (λ b. W.number (flagNumber b)) (Flagged i)
+  flag-spells : (i : Item) → Spells s [] (known s (listed (flagsOf i))) (λ b. W.number (flagNumber b)) (Flagged i)
   unfolding Every Flagged
-  flag-spells Item.function = known-spells flags flagNumber (λ b. Unit) ((refl, tt), ((refl, tt), tt))
-  flag-spells Item.constantItem = known-spells (flagsOf Item.constantItem) flagNumber (λ b. b ≡ true) ((refl, refl), tt)
+  flag-spells Item.function = listed-spells flags flagNumber (λ b. Unit) ((refl, tt), ((refl, tt), tt))
+  flag-spells Item.constantItem = listed-spells (flagsOf Item.constantItem) flagNumber (λ b. b ≡ true) ((refl, refl), tt)
 
-  signed-spells : Spells s [] (known s flags) (λ b. W.number (flagNumber b)) (Flagged Item.function)
+  signed-spells : Spells s [] (known s (listed flags)) (λ b. W.number (flagNumber b)) (Flagged Item.function)
   signed-spells = flag-spells Item.function
 
-  item-spells : Spells s [] (known s items) (λ i. W.number (itemNumber i)) (λ i. Unit)
+  item-spells : Spells s [] (known s (listed items)) (λ i. W.number (itemNumber i)) (λ i. Unit)
   unfolding Every
-  item-spells = known-spells items itemNumber (λ i. Unit) ((refl, tt), ((refl, tt), tt))
+  item-spells = listed-spells items itemNumber (λ i. Unit) ((refl, tt), ((refl, tt), tt))
 
   u32-spells : Spells s [] (u32 s) W.number IsU32
   unfolding u32
@@ -83,43 +83,25 @@ module _ {s : List ℕ} (bs : AreBytes s) where
     unfolding literalOf IsOperand
     literal-spells k = one-spells (λ b. literal (value k b)) (such-spells bs (holds k) unknown) (λ b h. (refl, h .1))
 
+    variable-spells : Spells s (W.number 0) (one Operand.variable (var s n)) W.operand (IsOperand n)
+    unfolding IsOperand
+    variable-spells = one-spells Operand.variable var-spells (λ v h. (refl, h))
+
     operand-spells : Spells s [] (operand s n) W.operand (IsOperand n)
-    unfolding operand IsOperand Every tag
-    operand-spells =
-        tabled-spells (some (one Operand.variable (var s n)) ∷ map (λ k. some (literalOf s k)) kinds) W.operand (IsOperand n) (
-          one-spells Operand.variable var-spells (λ v h. (refl, h)),
-          (
-            literal-spells Kind.bool,
-            (
-              literal-spells Kind.u8,
-              (
-                literal-spells Kind.u16,
-                (
-                  literal-spells Kind.u32,
-                  (
-                    literal-spells Kind.u64,
-                    (
-                      literal-spells Kind.i8,
-                      (
-                        literal-spells Kind.i16,
-                        (
-                          literal-spells Kind.i32,
-                          (
-                            literal-spells Kind.i64,
-                            (
-                              literal-spells Kind.f32,
-                              (literal-spells Kind.f64, (literal-spells Kind.char, (literal-spells Kind.asn, (literal-spells Kind.pointer, tt)))),
-                            ),
-                          ),
-                        ),
-                      ),
-                    ),
-                  ),
-                ),
-              ),
-            ),
-          ),
-        )
+    unfolding operand
+    operand-spells = tabled-spells (form s n) W.operand (IsOperand n) by-tag
+      where
+        by-kind : (k : ℕ) (o : Option Kind) (p : Field Operand) → kindAt k ≡ o → Option·map (literalOf s) o ≡ some p → Spells s (W.number k) p W.operand (IsOperand n)
+        by-kind k none p e h = absurd (Option·none-ne-some p h)
+        by-kind k (some j) p e h =
+            subst (λ p. Spells s (W.number k) p W.operand (IsOperand n)) (Option·some-injective (literalOf s j) p h)
+            (subst (λ (k : ℕ). Spells s (W.number k) (literalOf s j) W.operand (IsOperand n)) (tag-of-kind k j e) (literal-spells j))
+
+        by-tag : (k : ℕ) (p : Field Operand) → form s n k ≡ some p → Spells s (W.number k) p W.operand (IsOperand n)
+        by-tag zero p h = subst (λ p. Spells s (W.number 0) p W.operand (IsOperand n)) (Option·some-injective _ p h) variable-spells
+        by-tag (suc k) p h =
+            by-kind (suc k) (kindAt (suc k)) p refl
+            (sym (ap (λ (b : Bool). pick b (some (one Operand.variable (var s n))) (Option·map (literalOf s) (kindAt (suc k)))) (ne-eqb (suc k) 0 (λ e. omega arith))) ∙ h)
 
     slot-spells : Spells s [] (slot s n) W.slot (IsSlot n)
     unfolding slot
@@ -138,7 +120,8 @@ module _ {s : List ℕ} (bs : AreBytes s) where
     pub instruction-spells : Spells s [] (instruction s n) W.instruction (IsInstruction n)
     unfolding instruction table W.instruction IsInstruction Every
     instruction-spells =
-        tabled-spells (table s n) W.instruction (IsInstruction n) (
+        tabled-spells (listed (table s n)) W.instruction (IsInstruction n)
+        (every-at (λ k p. Spells s (W.number k) p W.instruction (IsInstruction n)) (table s n) (
           one-spells Jump label-spells (λ l h. (refl, h)),
           (
             three-spells Switch operand-spells (list-spells bs 64 branch-spells) label-spells (λ o h b i l j. (refl, (h, i, j))),
@@ -202,7 +185,7 @@ module _ {s : List ℕ} (bs : AreBytes s) where
               ),
             ),
           ),
-        )
+        ))
 
     -- ---- functions
 
@@ -234,7 +217,7 @@ module _ {s : List ℕ} (bs : AreBytes s) where
   pub header-spells : Spells s [] (header s) headed Counted
   unfolding header Every
   header-spells =
-      next-spells (known-spells versions (λ v. 1) (λ v. Unit) ((refl, tt), tt)) (λ version h. next-spells (upTo-spells bs 256 overLimit) (λ variables i.
+      next-spells (listed-spells versions (λ v. 1) (λ v. Unit) ((refl, tt), tt)) (λ version h. next-spells (upTo-spells bs 256 overLimit) (λ variables i.
       next-spells (upTo-spells bs 64 overLimit) (λ constants j. next-spells (upTo-spells bs 64 overLimit) (λ functions k. next-spells (upTo-spells bs 512 overLimit)
       (λ blocks l. last-spells refl (record { variables = i; constants = j; functions = k; blocks = l }))))))
 

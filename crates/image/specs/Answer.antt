@@ -4,12 +4,12 @@ use mathlib.Core.Bool.{Bool, true, false}
 use mathlib.Core.List.{List}
 use mathlib.Core.Option.{Option, none, some}
 use mathlib.Core.Path.{_≡_}
-use lib.ListN.{length, getD}
+use lib.ListN.{length}
 use lib.Seq.{sets}
 use lib.Dec.{leb}
 use Rattle.value.specs.Answer.{pick}
+use Rattle.value.specs.Tags.{typeAt}
 use Rattle.image.specs.Parse.{Got, took, refused, Field}
-use Rattle.image.specs.Image.{types}
 use Rattle.image.specs.declared.number.Number.{Number}
 use Rattle.image.specs.declared.number.Number.the-variants.{Value, Bad}
 use Rattle.image.specs.declared.number.Written.{Written}
@@ -50,7 +50,7 @@ isSome (some a) = true
 
 -- a tag that is a type's
 unfoldable pub isType : ℕ → Bool
-isType v = isSome (getD types v none)
+isType v = isSome (typeAt v)
 
 -- bytes stored from `start` on and the place after them, where they have room; else nothing
 pub record Stored (bytes : List ℕ) (start : ℕ) (before : List ℕ) (r : Written) (after : List ℕ) : Type 0 where

@@ -8,7 +8,7 @@ use lib.ListN.{length, take, replicate}
 use lib.Dec.{eqb}
 use Rattle.value.specs.Refusal.{bytesRunOut, malformed, unknown, overLimit, beyondCount, leftOver}
 use Rattle.value.specs.Value.{Kind, value, tag, isScalar, sameBytes}
-use Rattle.value.specs.Tags.{typeOfKind, holds}
+use Rattle.value.specs.Tags.{named, kindAt, typeOfKind, typed, holds, intCmpAt}
 use Rattle.image.specs.Parse.{Got, took, refused, andThen, many, within}
 use Rattle.image.specs.Number.{groups, number, bytesOf, bytesFrom}
 use Rattle.image.specs.Fields.{such, known, optional, listOf, raw, bytes, atEnd}
@@ -34,7 +34,7 @@ p1 = record {
 }
 
 pub p1-loads : loaded p1Image ≡ took p1 24
-unfolding loaded programOf image whole header constants function blocks instruction table operand literalOf holds var label optional listOf bytes raw atEnd known such many within number groups andThen
+unfolding loaded programOf image whole header constants function blocks instruction table operand kindAt named tag literalOf holds var label optional listOf bytes raw atEnd known such many within number groups andThen
 p1-loads = refl
 
 -- written, it is its image again
@@ -124,7 +124,7 @@ refusals =
     ∷ []
 
 pub all-refused : allRefused refusals ≡ true
-unfolding typeOfKind allRefused refusedAs loaded programOf image whole header constants function blocks instruction table operand literalOf holds isScalar var label type optional listOf bytes raw atEnd known such many within number groups andThen
+unfolding typeOfKind typed kindAt named tag intCmpAt allRefused refusedAs loaded programOf image whole header constants function blocks instruction table operand literalOf holds isScalar var label type optional listOf bytes raw atEnd known such many within number groups andThen
 all-refused = refl
 
 -- ---- P11

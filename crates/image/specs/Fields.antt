@@ -15,11 +15,19 @@ abbrev pub meant : {A : Type 0} → Option A → (at next : ℕ) → Got A
 meant none at next = refused unknown at
 meant (some a) at next = took a next
 
+-- by position in a list
+abbrev pub listed : {A : Type 0} → List (Option A) → ℕ → Option A
+listed items v = getD items v none
+
+-- a number that was read at a place and passes a test, else the refusal `why` there
+abbrev pub tested : (test : ℕ → Bool) → (why at : ℕ) → Got ℕ → Got ℕ
+tested test why at g = andThen g (λ v next. pick (test v) (took v next) (refused why at))
+
 -- the fields of the image whose bytes are s
 module _ (s : List ℕ) where
   -- a number that passes a test, else the refusal `why`
   unfoldable pub such : (test : ℕ → Bool) → (why : ℕ) → Field ℕ
-  such test why at = andThen (number s at) (λ v next. pick (test v) (took v next) (refused why at))
+  such test why at = tested test why at (number s at)
 
   abbrev pub below : (limit why : ℕ) → Field ℕ
   below limit why = such (λ v. ltb v limit) why
@@ -31,9 +39,9 @@ module _ (s : List ℕ) where
   abbrev pub atMost : (limit : ℕ) → Field ℕ
   atMost limit = upTo limit overLimit
 
-  -- a number that stands for the item at its position: "3 unknown tag, flag, opcode or version"
-  unfoldable pub known : {A : Type 0} → List (Option A) → Field A
-  known items at = andThen (number s at) (λ v next. meant (getD items v none) at next)
+  -- a number that stands for something: "3 unknown tag, flag, opcode or version"
+  unfoldable pub known : {A : Type 0} → (ℕ → Option A) → Field A
+  known item at = andThen (number s at) (λ v next. meant (item v) at next)
 
   -- "An optional field is 0, or 1 and the field."
   unfoldable pub optional : {A : Type 0} → Field A → Field (Option A)

@@ -2,16 +2,16 @@
 use Prim.Native.Nat.{ℕ, _^_}
 use mathlib.Core.Bool.{Bool, true, false}
 use mathlib.Core.List.{List, [], _∷_, map}
-use mathlib.Core.Option.{Option, none, some}
+use mathlib.Core.Option.{Option, none, some, Option·map}
 use lib.ListN.{length}
-use lib.Dec.{leb}
+use lib.Dec.{leb, eqb}
 use Rattle.value.specs.Answer.{pick}
 use Rattle.value.specs.Refusal.{unknown, overLimit, beyondCount}
 use Rattle.value.specs.Value.{Kind, IrType, value}
-use Rattle.value.specs.Tags.{kinds, typeOfKind, holds, intCmps, floatCmps}
+use Rattle.value.specs.Tags.{kindAt, typeAt, holds, intCmpAt, floatCmpAt}
 use Rattle.image.specs.Parse.{Got, took, refused, Field, Placed, andThen, give, many, within, placed, _>>=_, one, two, three, four, five}
 use Rattle.image.specs.Number.{number}
-use Rattle.image.specs.Fields.{such, below, atMost, known, optional, listOf, raw, bytes, atEnd}
+use Rattle.image.specs.Fields.{such, below, atMost, listed, known, optional, listOf, bytes, atEnd}
 use Rattle.image.specs.Program.{Program, Operand, literal, Slot, Branch, Declared, Item, Function, Instruction, Jump, Switch, Assign, ConstantAddress, Call, Return, IntCmp′, FloatCmp′, Add, Sub, Mul, Div, Mod, FDiv, Not, Negate, Offset, Initialize, Write, Read, Copy, Drop}
 
 -- "counts of variables (0..256), constants (0..64), functions (0..64), blocks (0..512)"
@@ -27,10 +27,6 @@ pub record Image : Type 0 where
   pub constants : List (Placed (List ℕ))
   pub functions : List (Placed Function)
   pub blocks : List (List (Placed Instruction))
-
--- "A type is such a tag without 0, 12, 13": by position, as the kinds have their tags
-abbrev pub types : List (Option IrType)
-types = none ∷ map typeOfKind kinds
 
 abbrev pub versions : List (Option ℕ)
 versions = none ∷ some 1 ∷ []
@@ -51,12 +47,16 @@ abbrev pub mostParameters : Item → ℕ
 mostParameters Item.function = 16
 mostParameters Item.constantItem = 0
 
+-- "An image is at most 32,768 bytes." "An over-long image is 4 at place 0, before all else."
+abbrev pub unlessLong : {A : Type 0} → (length : ℕ) → Got A → Got A
+unlessLong length found = pick (leb length 32768) found (refused overLimit 0)
+
 -- the fields of the image whose bytes are s
 module _ (s : List ℕ) where
   -- "Header: version 1, then counts of variables (0..256), constants (0..64), functions (0..64), blocks (0..512)."
   unfoldable pub header : Field Counts
   header = do
-    version ← known s versions
+    version ← known s (listed versions)
     variables ← atMost s 256
     constants ← atMost s 64
     functions ← atMost s 64
@@ -67,7 +67,7 @@ module _ (s : List ℕ) where
   unfoldable pub literalOf : Kind → Field Operand
   literalOf k = one (λ b. literal (value k b)) (such s (holds k) unknown)
 
-  -- "a u32"
+  -- a field that the table of opcodes calls u32
   unfoldable pub u32 : Field ℕ
   u32 = below s (2 ^ 32) unknown
 
@@ -75,8 +75,13 @@ module _ (s : List ℕ) where
   unfoldable pub size : Field ℕ
   size = atMost s 32768
 
+  -- "A type is such a tag without 0, 12, 13."
   unfoldable pub type : Field IrType
-  type = known s types
+  type = known s typeAt
+
+  -- "Block: instruction count, instructions ..", where so many are left of the limit over all
+  abbrev pub block : {A : Type 0} → (instruction : Field A) → (left : ℕ) → Field (List A)
+  block instruction left = listOf s left instruction
 
   module _ (n : Counts) where
     -- "5 a variable, label, constant or function beyond its count"
@@ -93,10 +98,13 @@ module _ (s : List ℕ) where
     callee = below s (n .functions) beyondCount
 
     -- "Operand: tag 0 and a variable, or a value's tag and its bits as an unsigned number"
+    abbrev pub form : (tag : ℕ) → Option (Field Operand)
+    form tag = pick (eqb tag 0) (some (one Operand.variable var)) (Option·map literalOf (kindAt tag))
+
     unfoldable pub operand : Field Operand
     operand = do
-      form ← known s (some (one Operand.variable var) ∷ map (λ k. some (literalOf k)) kinds)
-      form
+      fields ← known s form
+      fields
 
     unfoldable pub slot : Field Slot
     slot = two (λ v z. record { var = v; size = z }) var size
@@ -116,13 +124,13 @@ module _ (s : List ℕ) where
         ∷ some (two ConstantAddress var constant)
         ∷ some (five Call (optional s declared) (optional s operand) callee (listOf s 16 operand) (optional s var))
         ∷ some (one Return (optional s operand))
-        ∷ some (four IntCmp′ var (known s intCmps) operand operand)
-        ∷ some (four FloatCmp′ var (known s floatCmps) operand operand)
+        ∷ some (four IntCmp′ var (known s intCmpAt) operand operand)
+        ∷ some (four FloatCmp′ var (known s floatCmpAt) operand operand)
         ∷ some (three Add var operand operand)
         ∷ some (three Sub var operand operand)
         ∷ some (three Mul var operand operand)
-        ∷ some (four Div var (known s flags) operand operand)
-        ∷ some (four Mod var (known s flags) operand operand)
+        ∷ some (four Div var (known s (listed flags)) operand operand)
+        ∷ some (four Mod var (known s (listed flags)) operand operand)
         ∷ some (three FDiv var operand operand)
         ∷ some (two Not var operand)
         ∷ some (two Negate var operand)
@@ -136,18 +144,18 @@ module _ (s : List ℕ) where
 
     unfoldable pub instruction : Field Instruction
     instruction = do
-      fields ← known s table
+      fields ← known s (listed table)
       fields
 
-    -- "Function: kind, entry label, return variable, context variable, return-pointer flag, parameter count (0..16) and variables,
+    -- "Function: kind .., entry label, return variable, context variable, return-pointer flag, parameter count (0..16) and variables,
     -- slot count (0..16) and pairs of variable and size (0..32,768)."
     unfoldable pub function : Field Function
     function = do
-      item ← known s items
+      item ← known s (listed items)
       entry ← label
       returnVar ← var
       contextVar ← var
-      returnPointer ← known s (flagsOf item)
+      returnPointer ← known s (listed (flagsOf item))
       parameters ← listOf s (mostParameters item) var
       slots ← listOf s 16 slot
       give (record { item = item; entry = entry; returnVar = returnVar; contextVar = contextVar; returnPointer = returnPointer; parameters = parameters; slots = slots })
@@ -158,7 +166,7 @@ module _ (s : List ℕ) where
 
     -- "Block: instruction count, instructions (4,096 over all)."
     unfoldable pub blocks : Field (List (List (Placed Instruction)))
-    blocks = within length 4096 (n .blocks) (λ left. listOf s left (placed instruction))
+    blocks = within length 4096 (n .blocks) (block (placed instruction))
 
   unfoldable pub whole : Field Image
   whole = do
@@ -169,9 +177,8 @@ module _ (s : List ℕ) where
     end ← atEnd s
     give (record { variables = n .variables; constants = constants; functions = functions; blocks = blocks })
 
-  -- "An image is at most 32,768 bytes." "An over-long image is 4 at place 0, before all else."
   unfoldable pub image : Got Image
-  image = pick (leb (length s) 32768) (whole 0) (refused overLimit 0)
+  image = unlessLong (length s) (whole 0)
 
 -- the program that an image gives, without the places
 unfoldable pub programOf : Image → Program

@@ -1,13 +1,13 @@
 -- The programs within the document's limits: those that an image can hold.
-use Prim.Native.Nat.{ℕ, _+_, _^_, _≤_, _<_}
+use Prim.Native.Nat.{ℕ, _^_, _≤_, _<_}
 use mathlib.Core.Bool.{Bool, true}
-use mathlib.Core.List.{List, [], _∷_}
+use mathlib.Core.List.{List, [], _∷_, flatten}
 use mathlib.Core.Option.{Option, none, some}
 use mathlib.Core.Path.{_≡_}
 use lib.ListN.{length, getD}
 use Rattle.value.specs.Tags.{holds}
 use Rattle.image.specs.Image.{Counts, mostParameters}
-use Rattle.image.specs.Program.{Program, Operand, literal, Slot, Branch, Declared, Item, Function, Instruction, Jump, Switch, Assign, ConstantAddress, Call, Return, IntCmp′, FloatCmp′, Add, Sub, Mul, Div, Mod, FDiv, Not, Negate, Offset, Initialize, Write, Read, Copy, Drop}
+use Rattle.image.specs.Program.{Program, code, Operand, literal, Slot, Branch, Declared, Item, Function, Instruction, Jump, Switch, Assign, ConstantAddress, Call, Return, IntCmp′, FloatCmp′, Add, Sub, Mul, Div, Mod, FDiv, Not, Negate, Offset, Initialize, Write, Read, Copy, Drop}
 use Rattle.image.specs.Written.{written}
 
 -- ---- shapes of fields
@@ -31,11 +31,6 @@ IsByte b = b < 256
 abbrev pub AreBytes : List ℕ → Type 0
 AreBytes s = (k : ℕ) → IsByte (getD s k 0)
 
--- a running total
-unfoldable pub total : {A : Type 0} → List (List A) → ℕ
-total [] = 0
-total (x ∷ xs) = length x + total xs
-
 -- "A constant item has flag 1 (else 3)"
 unfoldable pub Flagged : Item → Bool → Type 0
 Flagged Item.function flag = Unit
@@ -45,7 +40,7 @@ Flagged Item.constantItem flag = flag ≡ true
 abbrev pub IsSize : ℕ → Type 0
 IsSize z = z ≤ 32768
 
--- "a u32"
+-- what the table of opcodes calls u32
 abbrev pub IsU32 : ℕ → Type 0
 IsU32 v = v < 2 ^ 32
 
@@ -125,8 +120,8 @@ pub record WithinLimits (P : Program) : Type 0 where
   pub constantCount : length (P .constants) ≤ 64
   pub functionCount : length (P .functions) ≤ 64
   pub blockCount : length (P .blocks) ≤ 512
-  pub constantBytes : total (P .constants) ≤ 8192
-  pub instructionCount : total (P .blocks) ≤ 4096
+  pub constantBytes : length (flatten (P .constants)) ≤ 8192
+  pub instructionCount : length (code P) ≤ 4096
   pub constants : Each (Each IsByte) (P .constants)
   pub functions : Each (IsFunctionItem (countsOf P)) (P .functions)
   pub blocks : Each (Each (IsInstruction (countsOf P))) (P .blocks)

@@ -4,7 +4,8 @@ use mathlib.Core.Bool.{Bool, true, false}
 use mathlib.Core.List.{List, [], _∷_, _++_}
 use mathlib.Core.Option.{Option, none, some}
 use lib.ListN.{length}
-use Rattle.value.specs.Value.{IrType, IntCmp, FloatCmp, kindOf, tag}
+use Rattle.value.specs.Value.{IrType, kindOf, tag}
+use Rattle.value.specs.Tags.{intCmpNumber, floatCmpNumber}
 use Rattle.image.specs.Number.{bytesOf}
 use Rattle.image.specs.Program.{Program, Operand, variable, literal, Slot, Branch, Declared, Item, Function, Instruction, Jump, Switch, Assign, ConstantAddress, Call, Return, IntCmp′, FloatCmp′, Add, Sub, Mul, Div, Mod, FDiv, Not, Negate, Offset, Initialize, Write, Read, Copy, Drop}
 
@@ -38,27 +39,6 @@ itemNumber Item.constantItem = 1
 -- a type is its kind's tag
 abbrev pub typeNumber : IrType → ℕ
 typeNumber t = tag (kindOf t)
-
--- "comparison in source order (0..9, 0..5)"
-abbrev pub intCmpNumber : IntCmp → ℕ
-intCmpNumber IntCmp.Eq = 0
-intCmpNumber IntCmp.Ne = 1
-intCmpNumber IntCmp.ULt = 2
-intCmpNumber IntCmp.ULe = 3
-intCmpNumber IntCmp.UGt = 4
-intCmpNumber IntCmp.UGe = 5
-intCmpNumber IntCmp.SLt = 6
-intCmpNumber IntCmp.SLe = 7
-intCmpNumber IntCmp.SGt = 8
-intCmpNumber IntCmp.SGe = 9
-
-abbrev pub floatCmpNumber : FloatCmp → ℕ
-floatCmpNumber FloatCmp.FEq = 0
-floatCmpNumber FloatCmp.FNe = 1
-floatCmpNumber FloatCmp.FLt = 2
-floatCmpNumber FloatCmp.FLe = 3
-floatCmpNumber FloatCmp.FGt = 4
-floatCmpNumber FloatCmp.FGe = 5
 
 -- ---- the parts
 
@@ -125,14 +105,14 @@ instruction (Read to a t) = num 19 ∷ num to ∷ operand a ++ number (typeNumbe
 instruction (Copy to from size) = num 20 ∷ operand to ++ operand from ++ number size
 instruction (Drop a) = num 21 ∷ operand a
 
--- "Function: kind, entry label, return variable, context variable, return-pointer flag, parameter count and variables, slot count and pairs"
+-- "Function: kind .., entry label, return variable, context variable, return-pointer flag, parameter count .. and variables, slot count .. and pairs .."
 unfoldable pub function : Function → List Piece
 function f =
     num (itemNumber (f .item)) ∷ num (f .entry) ∷ num (f .returnVar) ∷ num (f .contextVar) ∷ num (flagNumber (f .returnPointer))
     ∷ counted number (f .parameters) ++ counted slot (f .slots)
 
--- "Header: version 1, then counts of variables, constants, functions, blocks", then "Constant: length, raw bytes", the functions, and
--- "Block: instruction count, instructions"
+-- "Header: version 1, then counts of variables .., constants .., functions .., blocks ..", then "Constant: length, raw bytes ..", the functions, and
+-- "Block: instruction count, instructions .."
 unfoldable pub pieces : Program → List Piece
 pieces p =
     num 1 ∷ num (p .variables) ∷ num (length (p .constants)) ∷ num (length (p .functions)) ∷ num (length (p .blocks))

@@ -2,12 +2,15 @@
 ghost use mathlib.Core.Path.{_≡_};
 ghost use lib.Dec.{eqb};
 ghost use Rattle.value.specs.Refusal.{unknown};
-ghost use Rattle.value.specs.Value.{isScalar};
+ghost use Rattle.value.specs.Tags.{kindAt, held};
 ghost use Rattle.image.specs.Number.{number};
 ghost use Rattle.image.specs.Fields.{such, below, upTo, raw, atEnd};
 ghost use Rattle.image.specs.Answer.{got, shape, after, orElse, placeOf, walk, isType};
 use crate::number::Number;
 use crate::number::read_number;
+use value::IrType;
+use value::IrValue;
+use value::Tagged;
 use value::refusal::BYTES_RUN_OUT;
 use value::refusal::LEFT_OVER;
 use value::refusal::UNKNOWN;
@@ -111,23 +114,26 @@ pub fn type_after(image: &[u8], c: Step) -> Number
     ensures { λ r. ⌜ got r ≡ after c (such (now (image .entry)) isType unknown) ⌝ }
 {
     match number_after(image, c) {
-        Number::Value(v, next) => match v {
-            1..=11 | 14 => Number::Value(v, next),
-            _ => Number::Bad(UNKNOWN, place(c)),
+        Number::Value(v, next) => match IrType::from_tag(v) {
+            Tagged::Type(_) => Number::Value(v, next),
+            Tagged::Nothing => Number::Bad(UNKNOWN, place(c)),
         },
         Number::Bad(k, p) => Number::Bad(k, p),
     }
 }
 
-// A scalar value.
-pub fn scalar_after(image: &[u8], c: Step) -> Number
-    ensures { λ r. ⌜ got r ≡ after c (such (now (image .entry)) isScalar unknown) ⌝ }
+// The bits of a value with this tag.
+pub fn bits_after(image: &[u8], c: Step, tag: u64) -> Number
+    ensures { λ r. ⌜ got r ≡ after c (such (now (image .entry)) (held (kindAt tag)) unknown) ⌝ }
 {
     match number_after(image, c) {
-        Number::Value(v, next) => match v {
-            0..=0xd7ff | 0xe000..=0x10ffff => Number::Value(v, next),
-            _ => Number::Bad(UNKNOWN, place(c)),
-        },
+        Number::Value(v, next) => {
+            if IrValue::fits(tag, v) {
+                Number::Value(v, next)
+            } else {
+                Number::Bad(UNKNOWN, place(c))
+            }
+        }
         Number::Bad(k, p) => Number::Bad(k, p),
     }
 }

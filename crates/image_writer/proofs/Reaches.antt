@@ -1,22 +1,22 @@
 -- An image that is taken is passed to its end: where a field ends, the walk that leaves its limits aside stands.
 use Prim.Native.Nat.{ℕ, zero, suc, _-_}
 use native.Mathlib.Omega.{arith}
-use mathlib.Core.Bool.{Bool, true}
-use mathlib.Core.Path.{_≡_, sym, ap, ap₂, _∙_}
-use mathlib.Core.List.{List, [], _∷_, map}
-use mathlib.Core.Option.{Option, none, some}
-use lib.ListN.{length, getD}
+use mathlib.Core.Bool.{Bool, true, false}
+use mathlib.Core.Path.{_≡_, sym, ap, ap₂, subst, _∙_}
+use mathlib.Core.List.{List, _∷_}
+use mathlib.Core.Option.{Option, none, some, Option·map, Option·some-injective, Option·none-ne-some}
+use lib.ListN.{length}
 use lib.Dec.{leb, eqb}
 use borrow.Author.Tests.{leb-true}
 use Rattle.value.specs.Answer.{pick}
 use Rattle.value.specs.Refusal.{unknown, overLimit, beyondCount, leftOver}
 use Rattle.value.specs.Value.{Kind, value}
-use Rattle.value.specs.Tags.{kinds, holds, intCmps, floatCmps}
+use Rattle.value.specs.Tags.{kindAt, typeAt, holds, intCmpAt, floatCmpAt}
 use Rattle.image.specs.Parse.{Got, took, refused, Field, andThen, give, many, within, _>>=_, _<$>_, one, two, three, four, five}
 use Rattle.image.specs.Number.{number}
 use Rattle.image.specs.Answer.{orElse}
-use Rattle.image.specs.Fields.{such, atMost, known, meant, optional, listOf, raw, bytes, atEnd}
-use Rattle.image.specs.Image.{Counts, types, versions, flags, items, flagsOf, mostParameters, header, literalOf, u32, size, type, var, label, constant, callee, operand, slot, branch, declared, table, instruction, function}
+use Rattle.image.specs.Fields.{such, atMost, listed, known, meant, optional, listOf, raw, bytes, atEnd}
+use Rattle.image.specs.Image.{Counts, versions, flags, items, flagsOf, mostParameters, header, literalOf, u32, size, type, var, label, constant, callee, form, operand, slot, branch, declared, table, instruction, function}
 use Rattle.image.specs.Program.{Operand, literal, Instruction, Jump, Switch, Assign, ConstantAddress, Call, Return, IntCmp′, FloatCmp′, Add, Sub, Mul, Div, Mod, FDiv, Not, Negate, Offset, Initialize, Write, Read, Copy, Drop}
 use Rattle.image_writer.specs.Past.{endOf, times, among, numberAt, pastNumber, pastPair, pastRaw, pastOptional, pastList, pastBytes, pastSwitch, pastCall, pastChosen, pastThree, pastTyped, pastTwo, pastInitialize, pastWrite, pastCopy, pastFields, pastInstruction, pastFunction, pastParts, pastWhole}
 use Rattle.image.proofs.Parts.{parts, picked, Every, every-at, meant-some, two-right, three-right, four-right, five-right, same-value, same-place}
@@ -92,12 +92,12 @@ module _ (s : List ℕ) where
   such-numeric : (test : ℕ → Bool) (why : ℕ) → Numeric s (such s test why)
   such-numeric test why = record { reads = λ at next v e. (v, such-number s test why at next v e) }
 
-  known-numeric : {A : Type 0} (names : List (Option A)) → Numeric s (known s names)
+  known-numeric : {A : Type 0} (item : ℕ → Option A) → Numeric s (known s item)
   unfolding known
-  known-numeric names = record {
+  known-numeric item = record {
     reads = λ at next a e.
-        let i = parts (number s at) (λ v next. meant (getD names v none) at next) a next e in
-        let j = meant-some (getD names (i .value) none) at (i .place) next a (i .then′) in
+        let i = parts (number s at) (λ v next. meant (item v) at next) a next e in
+        let j = meant-some (item (i .value)) at (i .place) next a (i .then′) in
         (i .value, i .first ∙ ap (took (i .value)) (j .1));
   }
 
@@ -128,14 +128,14 @@ module _ (s : List ℕ) where
   two-numbers : {A B Z : Type 0} {p : Field A} {q : Field B} (f : A → B → Z) → Numeric s p → Numeric s q → Reaches (two f p q) (pastPair s)
   two-numbers {A} {B} {Z} {p} {q} f h t = same-reach (two-right f p q) (pair-reaches h (λ a. one-numeric (f a) t))
 
-  tabled-pair : {A : Type 0} (rows : List (Option (Field A))) → Every (λ k p. Numeric s p) rows → Reaches (known s rows >>= λ p. p) (pastPair s)
+  tabled-pair : {A : Type 0} (row-of : ℕ → Option (Field A)) → ((k : ℕ) (p : Field A) → row-of k ≡ some p → Numeric s p) → Reaches (known s row-of >>= λ p. p) (pastPair s)
   unfolding known pastPair andThen
-  tabled-pair {A} rows all = record {
+  tabled-pair {A} row-of law = record {
     ends = λ at next b e.
-        let i = parts (known s rows at) (λ p. p) b next e in
-        let j = parts (number s at) (λ v next. meant (getD rows v none) at next) (i .value) (i .place) (i .first) in
-        let k = meant-some (getD rows (j .value) none) at (j .place) (i .place) (i .value) (j .then′) in
-        let m = every-at (λ k p. Numeric s p) rows all (j .value) (i .value) (k .0) .reads (i .place) next b (i .then′) in
+        let i = parts (known s row-of at) (λ p. p) b next e in
+        let j = parts (number s at) (λ v next. meant (row-of v) at next) (i .value) (i .place) (i .first) in
+        let k = meant-some (row-of (j .value)) at (j .place) (i .place) (i .value) (j .then′) in
+        let m = law (j .value) (i .value) (k .0) .reads (i .place) next b (i .then′) in
         ap (λ (g : Got ℕ). endOf (andThen g (λ first. number s)) at) (j .first ∙ ap (took (j .value)) (k .1)) ∙ ap (λ (g : Got ℕ). endOf g at) (m .1);
   }
 
@@ -180,7 +180,7 @@ module _ (s : List ℕ) where
 
   type-numeric : Numeric s (type s)
   unfolding type
-  type-numeric = known-numeric types
+  type-numeric = known-numeric typeAt
 
   u32-numeric : Numeric s (u32 s)
   unfolding u32
@@ -211,14 +211,14 @@ module _ (s : List ℕ) where
     unfolding literalOf
     literal-numeric k = one-numeric (λ b. literal (value k b)) (such-numeric (holds k) unknown)
 
-    literals-numeric : (ks : List Kind) → Every (λ k p. Numeric s p) (map (λ k. some (literalOf s k)) ks)
-    unfolding Every
-    literals-numeric [] = tt
-    literals-numeric (k ∷ ks) = (literal-numeric k, literals-numeric ks)
+    form-numeric : (b : Bool) (o : Option Kind) (p : Field Operand) → pick b (some (one Operand.variable (var s n))) (Option·map (literalOf s) o) ≡ some p → Numeric s p
+    form-numeric true o p h = subst (Numeric s) (Option·some-injective _ p h) (one-numeric Operand.variable var-numeric)
+    form-numeric false none p h = absurd (Option·none-ne-some p h)
+    form-numeric false (some k) p h = subst (Numeric s) (Option·some-injective _ p h) (literal-numeric k)
 
     operand-reaches : Reaches (operand s n) (pastPair s)
-    unfolding operand Every
-    operand-reaches = tabled-pair (some (one Operand.variable (var s n)) ∷ map (λ k. some (literalOf s k)) kinds) (one-numeric Operand.variable var-numeric, literals-numeric kinds)
+    unfolding operand
+    operand-reaches = tabled-pair (form s n) (λ k p. form-numeric (eqb k 0) (kindAt k) p)
 
     slot-reaches : Reaches (slot s n) (pastPair s)
     unfolding slot
@@ -238,9 +238,9 @@ module _ (s : List ℕ) where
     unfolding pastThree
     three-operands f = three-reaches f (number-reaches var-numeric) operand-reaches operand-reaches
 
-    chosen-operands : {A : Type 0} (f : ℕ → A → Operand → Operand → Instruction) (names : List (Option A)) → Reaches (four f (var s n) (known s names) (operand s n) (operand s n)) (pastChosen s)
+    chosen-operands : {A : Type 0} (f : ℕ → A → Operand → Operand → Instruction) (item : ℕ → Option A) → Reaches (four f (var s n) (known s item) (operand s n) (operand s n)) (pastChosen s)
     unfolding pastChosen
-    chosen-operands f names = four-reaches f (number-reaches var-numeric) (number-reaches (known-numeric names)) operand-reaches operand-reaches
+    chosen-operands f item = four-reaches f (number-reaches var-numeric) (number-reaches (known-numeric item)) operand-reaches operand-reaches
 
     typed-operand : {A : Type 0} {p : Field A} (f : ℕ → Operand → A → Instruction) → Numeric s p → Reaches (three f (var s n) (operand s n) p) (pastTyped s)
     unfolding pastTyped
@@ -266,9 +266,9 @@ module _ (s : List ℕ) where
               (
                 one-reaches Return (optional-reaches operand-reaches),
                 (
-                  chosen-operands IntCmp′ intCmps,
+                  chosen-operands IntCmp′ intCmpAt,
                   (
-                    chosen-operands FloatCmp′ floatCmps,
+                    chosen-operands FloatCmp′ floatCmpAt,
                     (
                       three-operands Add,
                       (
@@ -276,9 +276,9 @@ module _ (s : List ℕ) where
                         (
                           three-operands Mul,
                           (
-                            chosen-operands Div flags,
+                            chosen-operands Div (listed flags),
                             (
-                              chosen-operands Mod flags,
+                              chosen-operands Mod (listed flags),
                               (
                                 three-operands FDiv,
                                 (
@@ -322,9 +322,9 @@ module _ (s : List ℕ) where
     unfolding instruction known pastInstruction numberAt pastNumber
     instruction-reaches = record {
       ends = λ at next b e.
-          let i = parts (known s (table s n) at) (λ p. p) b next e in
-          let j = parts (number s at) (λ v next. meant (getD (table s n) v none) at next) (i .value) (i .place) (i .first) in
-          let k = meant-some (getD (table s n) (j .value) none) at (j .place) (i .place) (i .value) (j .then′) in
+          let i = parts (known s (listed (table s n)) at) (λ p. p) b next e in
+          let j = parts (number s at) (λ v next. meant (listed (table s n) v) at next) (i .value) (i .place) (i .first) in
+          let k = meant-some (listed (table s n) (j .value)) at (j .place) (i .place) (i .value) (j .then′) in
           let h = every-at (λ k p. Reaches p (pastFields s k)) (table s n) table-reaches (j .value) (i .value) (k .0) in
           ap (λ (g : Got ℕ). pastFields s (orElse 0 g) (endOf g at)) (j .first ∙ ap (took (j .value)) (k .1)) ∙ h .ends (i .place) next b (i .then′);
     }
@@ -332,8 +332,8 @@ module _ (s : List ℕ) where
     function-reaches : Reaches (function s n) (pastFunction s)
     unfolding function pastFunction times
     function-reaches =
-        then-reaches (number-reaches (known-numeric items)) (λ item. then-reaches (number-reaches label-numeric) (λ entry. then-reaches (number-reaches var-numeric)
-        (λ returnVar. then-reaches (number-reaches var-numeric) (λ contextVar. then-reaches (number-reaches (known-numeric (flagsOf item)))
+        then-reaches (number-reaches (known-numeric (listed items))) (λ item. then-reaches (number-reaches label-numeric) (λ entry. then-reaches (number-reaches var-numeric)
+        (λ returnVar. then-reaches (number-reaches var-numeric) (λ contextVar. then-reaches (number-reaches (known-numeric (listed (flagsOf item))))
         (λ flag. then-reaches (list-reaches (mostParameters item) (number-reaches var-numeric)) (λ parameters. then-reaches (list-reaches 16 slot-reaches)
         (λ slots. record { ends = λ at next a e. same-place e })))))))
 
@@ -370,7 +370,7 @@ module _ (s : List ℕ) where
       let c = parts _ _ n next (b .then′) in
       let d = parts _ _ n next (c .then′) in
       let f = parts _ _ n next (d .then′) in
-      let first = number-reaches (known-numeric versions) .ends at (a .place) (a .value) (a .first) in
+      let first = number-reaches (known-numeric (listed versions)) .ends at (a .place) (a .value) (a .first) in
       let two = ap (pastNumber s) first ∙ atMost-ends 256 (a .place) (b .place) (b .value) (b .first) in
       let three = ap (pastNumber s) two ∙ atMost-ends 64 (b .place) (c .place) (c .value) (c .first) in
       let four = ap (pastNumber s) three ∙ atMost-ends 64 (c .place) (d .place) (d .value) (d .first) in

@@ -9,6 +9,7 @@ use lib.Seq.{sets}
 use Rattle.image.specs.Parse.{Got, took, Field, Placed, many, within, placed}
 use Rattle.image.specs.Fields.{atMost, listOf}
 use Rattle.image.specs.Image.{Counts, instruction, blocks}
+use Rattle.image.specs.Image as Image
 use Rattle.image.specs.Program.{Instruction}
 use Rattle.image.specs.Answer.{shape, after, orElse, walk}
 use Rattle.image.specs.declared.field.Step.{Step}
@@ -32,7 +33,7 @@ module _ (s : List ℕ) (n : Counts) where
   code k = many k (placed (instruction s n))
 
   abbrev pub block : ℕ → Field (List (Placed Instruction))
-  block left = listOf s left (placed (instruction s n))
+  block = Image.block s (placed (instruction s n))
 
   abbrev pub all : (left m : ℕ) → Field (List (List (Placed Instruction)))
   all left m = within length left m block

@@ -7,7 +7,7 @@ use mathlib.Core.List.{List, [], _∷_}
 use lib.Dec.{eqb}
 use Rattle.value.specs.Refusal.{unknown}
 use Rattle.image.specs.Parse.{took, _<$>_}
-use Rattle.image.specs.Fields.{such, below, atMost, known, listOf}
+use Rattle.image.specs.Fields.{such, below, atMost, listed, known, listOf}
 use Rattle.image.specs.Image.{Counts, items, flagsOf, mostParameters, versions, var, label, slot, function, header}
 use Rattle.image.specs.Program.{Item}
 use Rattle.image.specs.Answer.{shape, after, orElse, walk}
@@ -31,31 +31,31 @@ unfolding itemOf
 item-constant kind e = rw e
 
 module _ (s : List ℕ) (c : Step) (kind : ℕ) where
-  pub flag-function : (kind ≡ 1 → ⊥) → walk (known s (flagsOf (itemOf kind))) c ≡ walk (below s 2 unknown) c
-  flag-function h = ap (λ (i : Item). walk (known s (flagsOf i)) c) (item-function kind h) ∙ known-below s (false ∷ true ∷ []) c
+  pub flag-function : (kind ≡ 1 → ⊥) → walk (known s (listed (flagsOf (itemOf kind)))) c ≡ walk (below s 2 unknown) c
+  flag-function h = ap (λ (i : Item). walk (known s (listed (flagsOf i))) c) (item-function kind h) ∙ known-below s (false ∷ true ∷ []) c
 
-  pub flag-constant : kind ≡ 1 → walk (known s (flagsOf (itemOf kind))) c ≡ walk (such s (λ v. eqb v 1) unknown) c
-  flag-constant e = ap (λ (i : Item). walk (known s (flagsOf i)) c) (item-constant kind e) ∙ known-only s true c
+  pub flag-constant : kind ≡ 1 → walk (known s (listed (flagsOf (itemOf kind)))) c ≡ walk (such s (λ v. eqb v 1) unknown) c
+  flag-constant e = ap (λ (i : Item). walk (known s (listed (flagsOf i))) c) (item-constant kind e) ∙ known-only s true c
 
 module _ (s : List ℕ) (n : Counts) (c : Step) where
   -- a function's fields, where its kind was read as `kind`
   pub function-walk : (kind : ℕ) → kind ≡ orElse 0 (after c (below s 2 unknown))
       → walk (function s n) c
-      ≡ walk (listOf s 16 (slot s n)) (walk (listOf s (mostParameters (itemOf kind)) (var s n)) (walk (known s (flagsOf (itemOf kind)))
+      ≡ walk (listOf s 16 (slot s n)) (walk (listOf s (mostParameters (itemOf kind)) (var s n)) (walk (known s (listed (flagsOf (itemOf kind))))
       (walk (var s n) (walk (var s n) (walk (label s n) (walk (below s 2 unknown) c))))))
   unfolding function itemOf
   function-walk kind e =
-      let item = orElse Item.function (after c (known s items)) in
+      let item = orElse Item.function (after c (known s (listed items))) in
       let is : itemOf kind ≡ item = ap itemOf e ∙ sym (known-item s Item.function (Item.constantItem ∷ []) c) in
-      let c₁ = walk (known s items) c in
+      let c₁ = walk (known s (listed items)) c in
       let c₂ = walk (label s n) c₁ in
       let c₃ = walk (var s n) c₂ in
       let c₄ = walk (var s n) c₃ in
-      let c₅ = walk (known s (flagsOf item)) c₄ in
+      let c₅ = walk (known s (listed (flagsOf item))) c₄ in
       let c₆ = walk (listOf s (mostParameters item) (var s n)) c₅ in
       rw (is, ← known-below s (Item.function ∷ Item.constantItem ∷ []) c)
-      (ap shape (next c (known s items) Item.function _ ∙ next c₁ (label s n) 0 _ ∙ next c₂ (var s n) 0 _ ∙ next c₃ (var s n) 0 _
-      ∙ next c₄ (known s (flagsOf item)) false _ ∙ next c₅ (listOf s (mostParameters item) (var s n)) [] _)
+      (ap shape (next c (known s (listed items)) Item.function _ ∙ next c₁ (label s n) 0 _ ∙ next c₂ (var s n) 0 _ ∙ next c₃ (var s n) 0 _
+      ∙ next c₄ (known s (listed (flagsOf item))) false _ ∙ next c₅ (listOf s (mostParameters item) (var s n)) [] _)
       ∙ walk-map _ (listOf s 16 (slot s n)) c₆)
 
 -- ---- the header
@@ -66,7 +66,7 @@ same-counts n h₁ h₂ h₃ h₄ = rw (← h₁, ← h₂, ← h₃, ← h₄)
 
 module _ (s : List ℕ) where
   abbrev at₁ : Step
-  at₁ = walk (known s versions) (At 0)
+  at₁ = walk (known s (listed versions)) (At 0)
 
   abbrev at₂ : Step
   at₂ = walk (atMost s 256) at₁
@@ -82,7 +82,7 @@ module _ (s : List ℕ) where
 
   in-order : header s 0 ≡ after at₄ (found <$> atMost s 512)
   unfolding header
-  in-order = next (At 0) (known s versions) 0 _ ∙ next at₁ (atMost s 256) 0 _ ∙ next at₂ (atMost s 64) 0 _ ∙ next at₃ (atMost s 64) 0 _
+  in-order = next (At 0) (known s (listed versions)) 0 _ ∙ next at₁ (atMost s 256) 0 _ ∙ next at₂ (atMost s 64) 0 _ ∙ next at₃ (atMost s 64) 0 _
 
   counted : (c : Step) (m : Counts) (e : ℕ) → after c (found <$> atMost s 512) ≡ took m e → found (orElse 0 (after c (atMost s 512))) ≡ m
   counted c m e h =

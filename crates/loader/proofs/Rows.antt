@@ -2,20 +2,21 @@
 use Prim.Native.Nat.{ℕ, zero, suc, _≤_, _<_}
 use native.Mathlib.Omega.{arith}
 use native.Mathlib.Decide.{ℕ-discrete}
-use mathlib.Core.Bool.{Bool, true, false}
-use mathlib.Core.Path.{_≡_, refl, ap, _∙_}
+use mathlib.Core.Bool.{true, false}
+use mathlib.Core.Path.{_≡_, refl, sym, ap, _∙_}
 use mathlib.Core.List.{List, [], _∷_, map}
-use mathlib.Core.Option.{Option, none, some}
+use mathlib.Core.Option.{none, some}
 use mathlib.Core.Logic.{_⊎_, inl, inr}
 use lib.ListN.{length, getD, List·getD-eq-default}
-use lib.Dec.{leb, leb·suc-suc}
+use borrow.Author.Tests.{ne-eqb}
 use Rattle.value.specs.Refusal.{unknown}
-use Rattle.value.specs.Value.{Kind, IntCmp, FloatCmp, isScalar}
-use Rattle.value.specs.Tags.{kinds, holds}
+use Rattle.value.specs.Value.{Kind, tag, IntCmp, FloatCmp}
+use Rattle.value.specs.Tags.{named, kindAt, holds, held, intCmpAt, floatCmpAt}
+use Rattle.value.proofs.Tags.{no-kind}
 use Rattle.image.specs.Parse.{Field, one, three, four}
 use Rattle.image.specs.Number.{number}
-use Rattle.image.specs.Fields.{such, below, upTo, known, optional, listOf, bytes}
-use Rattle.image.specs.Image.{Counts, literalOf, u32, size, type, var, label, constant, callee, operand, branch, declared, table, instruction}
+use Rattle.image.specs.Fields.{such, below, listed, known, optional, listOf, bytes}
+use Rattle.image.specs.Image.{Counts, literalOf, u32, size, type, var, label, constant, callee, form, operand, branch, declared, table, instruction}
 use Rattle.image.specs.Program.{Operand, Instruction, IntCmp′, FloatCmp′, Add, Sub, Mul, Div, Mod, FDiv}
 use Rattle.image.specs.Answer.{after, orElse, walk, placeOf}
 use Rattle.image.specs.declared.field.Step.{Step}
@@ -23,25 +24,7 @@ use Rattle.image.specs.declared.field.Step.the-variants.{Stop}
 use Rattle.image.proofs.Laws.{walk-map, walk-two, walk-three, walk-four, walk-five}
 use Rattle.image.proofs.Shapes.{known-below, chosen, chosen-none, such-same}
 
--- a tag or an opcode that is none of the smaller ones
-pub beyond-tags : (v : ℕ) → (v ≡ 0 → ⊥) → (v ≡ 1 → ⊥) → ((v ≡ 2) ⊎ (v ≡ 6) → ⊥) → ((v ≡ 3) ⊎ (v ≡ 7) → ⊥) → ((v ≡ 4) ⊎ (v ≡ 8) ⊎ (v ≡ 10) ⊎ (v ≡ 13) → ⊥) → ((v ≡ 5) ⊎ (v ≡ 9) ⊎ (v ≡ 11) ⊎ (v ≡ 14) → ⊥) → (v ≡ 12 → ⊥) → 14 < v
-beyond-tags zero a b c d e f g = absurd (a refl)
-beyond-tags (suc zero) a b c d e f g = absurd (b refl)
-beyond-tags (suc (suc zero)) a b c d e f g = absurd (c (inl refl))
-beyond-tags (suc (suc (suc zero))) a b c d e f g = absurd (d (inl refl))
-beyond-tags (suc (suc (suc (suc zero)))) a b c d e f g = absurd (e (inl refl))
-beyond-tags (suc (suc (suc (suc (suc zero))))) a b c d e f g = absurd (f (inl refl))
-beyond-tags (suc (suc (suc (suc (suc (suc zero)))))) a b c d e f g = absurd (c (inr refl))
-beyond-tags (suc (suc (suc (suc (suc (suc (suc zero))))))) a b c d e f g = absurd (d (inr refl))
-beyond-tags (suc (suc (suc (suc (suc (suc (suc (suc zero)))))))) a b c d e f g = absurd (e (inr (inl refl)))
-beyond-tags (suc (suc (suc (suc (suc (suc (suc (suc (suc zero))))))))) a b c d e f g = absurd (f (inr (inl refl)))
-beyond-tags (suc (suc (suc (suc (suc (suc (suc (suc (suc (suc zero)))))))))) a b c d e f g = absurd (e (inr (inr (inl refl))))
-beyond-tags (suc (suc (suc (suc (suc (suc (suc (suc (suc (suc (suc zero))))))))))) a b c d e f g = absurd (f (inr (inr (inl refl))))
-beyond-tags (suc (suc (suc (suc (suc (suc (suc (suc (suc (suc (suc (suc zero)))))))))))) a b c d e f g = absurd (g refl)
-beyond-tags (suc (suc (suc (suc (suc (suc (suc (suc (suc (suc (suc (suc (suc zero))))))))))))) a b c d e f g = absurd (e (inr (inr (inr refl))))
-beyond-tags (suc (suc (suc (suc (suc (suc (suc (suc (suc (suc (suc (suc (suc (suc zero)))))))))))))) a b c d e f g = absurd (f (inr (inr (inr refl))))
-beyond-tags (suc (suc (suc (suc (suc (suc (suc (suc (suc (suc (suc (suc (suc (suc (suc w))))))))))))))) a b c d e f g = omega arith
-
+-- an opcode that is none of the smaller ones
 pub beyond-7 : (v : ℕ) → (v ≡ 0 → ⊥) → (v ≡ 1 → ⊥) → ((v ≡ 2) ⊎ (v ≡ 19) → ⊥) → (v ≡ 3 → ⊥) → (v ≡ 4 → ⊥) → (v ≡ 5 → ⊥) → (v ≡ 6 → ⊥) → (v ≡ 7 → ⊥) → 8 ≤ v
 beyond-7 zero a b c d e f g h = absurd (a refl)
 beyond-7 (suc zero) a b c d e f g h = absurd (b refl)
@@ -63,65 +46,54 @@ literal-walk : (s : List ℕ) (k : Kind) (c : Step) → walk (literalOf s k) c �
 unfolding literalOf
 literal-walk s k c = walk-map _ (such s (holds k) unknown) c
 
+-- a tag from 1 to 14 is a kind's
+kind-there : (v : ℕ) → 1 ≤ v → v ≤ 14 → (k : Kind) × (kindAt v ≡ some k)
+unfolding kindAt named tag
+kind-there zero lo hi = absurd (omega arith)
+kind-there (suc zero) lo hi = (Kind.bool, refl)
+kind-there (suc (suc zero)) lo hi = (Kind.u8, refl)
+kind-there (suc (suc (suc zero))) lo hi = (Kind.u16, refl)
+kind-there (suc (suc (suc (suc zero)))) lo hi = (Kind.u32, refl)
+kind-there (suc (suc (suc (suc (suc zero))))) lo hi = (Kind.u64, refl)
+kind-there (suc (suc (suc (suc (suc (suc zero)))))) lo hi = (Kind.i8, refl)
+kind-there (suc (suc (suc (suc (suc (suc (suc zero))))))) lo hi = (Kind.i16, refl)
+kind-there (suc (suc (suc (suc (suc (suc (suc (suc zero)))))))) lo hi = (Kind.i32, refl)
+kind-there (suc (suc (suc (suc (suc (suc (suc (suc (suc zero))))))))) lo hi = (Kind.i64, refl)
+kind-there (suc (suc (suc (suc (suc (suc (suc (suc (suc (suc zero)))))))))) lo hi = (Kind.f32, refl)
+kind-there (suc (suc (suc (suc (suc (suc (suc (suc (suc (suc (suc zero))))))))))) lo hi = (Kind.f64, refl)
+kind-there (suc (suc (suc (suc (suc (suc (suc (suc (suc (suc (suc (suc zero)))))))))))) lo hi = (Kind.char, refl)
+kind-there (suc (suc (suc (suc (suc (suc (suc (suc (suc (suc (suc (suc (suc zero))))))))))))) lo hi = (Kind.asn, refl)
+kind-there (suc (suc (suc (suc (suc (suc (suc (suc (suc (suc (suc (suc (suc (suc zero)))))))))))))) lo hi = (Kind.pointer, refl)
+kind-there (suc (suc (suc (suc (suc (suc (suc (suc (suc (suc (suc (suc (suc (suc (suc w))))))))))))))) lo hi = absurd (omega arith)
+
 -- an operand whose tag is v
 module _ (s : List ℕ) (n : Counts) (c : Step) (v : ℕ) (e : v ≡ orElse 0 (after c (number s))) where
-  abbrev forms : List (Option (Field Operand))
-  forms = some (one Operand.variable (var s n)) ∷ map (λ k. some (literalOf s k)) kinds
-
-  form : (row : Field Operand) → getD forms v none ≡ some row → walk (operand s n) c ≡ walk row (walk (number s) c)
+  formed : (row : Field Operand) → form s n v ≡ some row → walk (operand s n) c ≡ walk row (walk (number s) c)
   unfolding operand
-  form row h = chosen s forms v c row e h
+  formed row h = chosen s (form s n) v c row e h
 
   pub variable-form : v ≡ 0 → walk (operand s n) c ≡ walk (var s n) (walk (number s) c)
-  variable-form h = form (one Operand.variable (var s n)) (ap (λ (k : ℕ). getD forms k none) h) ∙ walk-map _ (var s n) (walk (number s) c)
+  variable-form h = formed (one Operand.variable (var s n)) (ap (form s n) h) ∙ walk-map _ (var s n) (walk (number s) c)
 
-  -- the bits of a kind that pass a test
-  literal-form : (k : Kind) (test : ℕ → Bool) → getD forms v none ≡ some (literalOf s k) → ((b : ℕ) → holds k b ≡ test b)
-      → walk (operand s n) c ≡ walk (such s test unknown) (walk (number s) c)
-  literal-form k test h same =
-      form (literalOf s k) h ∙ literal-walk s k (walk (number s) c) ∙ such-same s (holds k) test unknown same (walk (number s) c)
-
-  pub bool-form : v ≡ 1 → walk (operand s n) c ≡ walk (upTo s 1 unknown) (walk (number s) c)
-  unfolding holds
-  bool-form h = literal-form Kind.bool (λ b. leb b 1) (ap (λ (k : ℕ). getD forms k none) h) (λ b. leb·suc-suc b 1)
-
-  pub scalar-form : v ≡ 12 → walk (operand s n) c ≡ walk (such s isScalar unknown) (walk (number s) c)
-  unfolding holds
-  scalar-form h = literal-form Kind.char isScalar (ap (λ (k : ℕ). getD forms k none) h) (λ b. refl)
-
-  pub byte-form : (v ≡ 2) ⊎ (v ≡ 6) → walk (operand s n) c ≡ walk (upTo s 0xff unknown) (walk (number s) c)
-  unfolding holds
-  byte-form (inl h) = literal-form Kind.u8 (λ b. leb b 0xff) (ap (λ (k : ℕ). getD forms k none) h) (λ b. leb·suc-suc b 0xff)
-  byte-form (inr h) = literal-form Kind.i8 (λ b. leb b 0xff) (ap (λ (k : ℕ). getD forms k none) h) (λ b. leb·suc-suc b 0xff)
-
-  pub half-form : (v ≡ 3) ⊎ (v ≡ 7) → walk (operand s n) c ≡ walk (upTo s 0xffff unknown) (walk (number s) c)
-  unfolding holds
-  half-form (inl h) = literal-form Kind.u16 (λ b. leb b 0xffff) (ap (λ (k : ℕ). getD forms k none) h) (λ b. leb·suc-suc b 0xffff)
-  half-form (inr h) = literal-form Kind.i16 (λ b. leb b 0xffff) (ap (λ (k : ℕ). getD forms k none) h) (λ b. leb·suc-suc b 0xffff)
-
-  pub word-form : (v ≡ 4) ⊎ (v ≡ 8) ⊎ (v ≡ 10) ⊎ (v ≡ 13) → walk (operand s n) c ≡ walk (upTo s 0xffffffff unknown) (walk (number s) c)
-  unfolding holds
-  word-form (inl h) = literal-form Kind.u32 (λ b. leb b 0xffffffff) (ap (λ (k : ℕ). getD forms k none) h) (λ b. leb·suc-suc b 0xffffffff)
-  word-form (inr (inl h)) = literal-form Kind.i32 (λ b. leb b 0xffffffff) (ap (λ (k : ℕ). getD forms k none) h) (λ b. leb·suc-suc b 0xffffffff)
-  word-form (inr (inr (inl h))) = literal-form Kind.f32 (λ b. leb b 0xffffffff) (ap (λ (k : ℕ). getD forms k none) h) (λ b. leb·suc-suc b 0xffffffff)
-  word-form (inr (inr (inr h))) = literal-form Kind.asn (λ b. leb b 0xffffffff) (ap (λ (k : ℕ). getD forms k none) h) (λ b. leb·suc-suc b 0xffffffff)
-
-  pub double-form : (v ≡ 5) ⊎ (v ≡ 9) ⊎ (v ≡ 11) ⊎ (v ≡ 14) → walk (operand s n) c ≡ walk (upTo s 0xffffffffffffffff unknown) (walk (number s) c)
-  unfolding holds
-  double-form (inl h) = literal-form Kind.u64 (λ b. leb b 0xffffffffffffffff) (ap (λ (k : ℕ). getD forms k none) h) (λ b. leb·suc-suc b 0xffffffffffffffff)
-  double-form (inr (inl h)) = literal-form Kind.i64 (λ b. leb b 0xffffffffffffffff) (ap (λ (k : ℕ). getD forms k none) h) (λ b. leb·suc-suc b 0xffffffffffffffff)
-  double-form (inr (inr (inl h))) = literal-form Kind.f64 (λ b. leb b 0xffffffffffffffff) (ap (λ (k : ℕ). getD forms k none) h) (λ b. leb·suc-suc b 0xffffffffffffffff)
-  double-form (inr (inr (inr h))) = literal-form Kind.pointer (λ b. leb b 0xffffffffffffffff) (ap (λ (k : ℕ). getD forms k none) h) (λ b. leb·suc-suc b 0xffffffffffffffff)
+  pub literal-form : 1 ≤ v → v ≤ 14 → walk (operand s n) c ≡ walk (such s (held (kindAt v)) unknown) (walk (number s) c)
+  unfolding held
+  literal-form lo hi =
+      let (k, is) = kind-there v lo hi in
+      let named : form s n v ≡ some (literalOf s k) = rw (ne-eqb v 0 (λ z. omega arith), is) in
+      formed (literalOf s k) named ∙ literal-walk s k (walk (number s) c)
+      ∙ such-same s (holds k) (held (kindAt v)) unknown (λ b. sym (ap (λ o. held o b) is)) (walk (number s) c)
 
   pub no-form : 14 < v → walk (operand s n) c ≡ Stop unknown (placeOf c)
   unfolding operand
-  no-form h = chosen-none s forms v c e (List·getD-eq-default forms none {n = v} (omega arith)) (λ z. omega arith)
+  no-form h =
+      let nothing : form s n v ≡ none = rw (ne-eqb v 0 (λ z. omega arith), no-kind v (λ z. omega arith) (λ z. omega arith) (λ z. omega arith) (λ z. omega arith) (λ z. omega arith) (λ z. omega arith) (λ z. omega arith) (λ z. omega arith) (λ z. omega arith) (λ z. omega arith) (λ z. omega arith) (λ z. omega arith) (λ z. omega arith) (λ z. omega arith)) in
+      chosen-none s (form s n) v c e nothing (λ z. omega arith)
 
 -- an instruction whose opcode is v: its row's fields, one after another
 module _ (s : List ℕ) (n : Counts) (c : Step) (v : ℕ) (e : v ≡ orElse 0 (after c (number s))) where
   row : (k : ℕ) (r : Field Instruction) → getD (table s n) k none ≡ some r → v ≡ k → walk (instruction s n) c ≡ walk r (walk (number s) c)
   unfolding instruction
-  row k r h is = chosen s (table s n) v c r e (ap (λ (k : ℕ). getD (table s n) k none) is ∙ h)
+  row k r h is = chosen s (listed (table s n)) v c r e (ap (λ (k : ℕ). getD (table s n) k none) is ∙ h)
 
   pub jump-row : v ≡ 0 → walk (instruction s n) c ≡ walk (label s n) (walk (number s) c)
   unfolding table
@@ -151,19 +123,19 @@ module _ (s : List ℕ) (n : Counts) (c : Step) (v : ℕ) (e : v ≡ orElse 0 (a
 
   -- to, one of a list of items, two operands
   chosen-row : {A : Type 0} (k : ℕ) (f : ℕ → A → Operand → Operand → Instruction) (items : List A)
-      → getD (table s n) k none ≡ some (four f (var s n) (known s (map some items)) (operand s n) (operand s n)) → v ≡ k
+      → getD (table s n) k none ≡ some (four f (var s n) (known s (listed (map some items))) (operand s n) (operand s n)) → v ≡ k
       → walk (instruction s n) c ≡ walk (operand s n) (walk (operand s n) (walk (below s (length items) unknown) (walk (var s n) (walk (number s) c))))
   chosen-row k f items h is =
-      row k _ h is ∙ walk-four f (var s n) (known s (map some items)) (operand s n) (operand s n) (walk (number s) c)
+      row k _ h is ∙ walk-four f (var s n) (known s (listed (map some items))) (operand s n) (operand s n) (walk (number s) c)
       ∙ ap (λ (d : Step). walk (operand s n) (walk (operand s n) d)) (known-below s items (walk (var s n) (walk (number s) c)))
 
   pub int-cmp-row : v ≡ 6 → walk (instruction s n) c ≡ walk (operand s n) (walk (operand s n) (walk (below s 10 unknown) (walk (var s n) (walk (number s) c))))
-  unfolding table
+  unfolding table intCmpAt
   int-cmp-row h =
       chosen-row 6 (λ t i a b. IntCmp′ t i a b) (IntCmp.Eq ∷ IntCmp.Ne ∷ IntCmp.ULt ∷ IntCmp.ULe ∷ IntCmp.UGt ∷ IntCmp.UGe ∷ IntCmp.SLt ∷ IntCmp.SLe ∷ IntCmp.SGt ∷ IntCmp.SGe ∷ []) refl h
 
   pub float-cmp-row : v ≡ 7 → walk (instruction s n) c ≡ walk (operand s n) (walk (operand s n) (walk (below s 6 unknown) (walk (var s n) (walk (number s) c))))
-  unfolding table
+  unfolding table floatCmpAt
   float-cmp-row h =
       chosen-row 7 (λ t i a b. FloatCmp′ t i a b) (FloatCmp.FEq ∷ FloatCmp.FNe ∷ FloatCmp.FLt ∷ FloatCmp.FLe ∷ FloatCmp.FGt ∷ FloatCmp.FGe ∷ []) refl h
 
@@ -224,4 +196,4 @@ module _ (s : List ℕ) (n : Counts) (c : Step) (v : ℕ) (e : v ≡ orElse 0 (a
 
   pub no-row : 22 ≤ v → walk (instruction s n) c ≡ Stop unknown (placeOf c)
   unfolding instruction table
-  no-row h = chosen-none s (table s n) v c e (List·getD-eq-default (table s n) none {n = v} (omega arith)) (λ z. omega arith)
+  no-row h = chosen-none s (listed (table s n)) v c e (List·getD-eq-default (table s n) none {n = v} (omega arith)) (λ z. omega arith)

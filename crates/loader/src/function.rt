@@ -1,7 +1,7 @@
 // Functions and their lists of parameters and slots.
 ghost use mathlib.Core.Path.{_≡_};
 ghost use Rattle.image.specs.Parse.{many};
-ghost use Rattle.image.specs.Fields.{known};
+ghost use Rattle.image.specs.Fields.{listed, known};
 ghost use Rattle.image.specs.Image.{var, slot, function, flagsOf, mostParameters};
 ghost use Rattle.image.specs.Answer.{walk};
 ghost use Rattle.loader.specs.Counts.{countsOf, itemOf};
@@ -50,7 +50,7 @@ fn slots_after(image: &[u8], start: Step, count: u64, n: Counts) -> Step
 
 // The return-pointer flag: a constant item's is 1.
 fn flag_after(image: &[u8], c: Step, kind: u64) -> Step
-    ensures { λ r. ⌜ r ≡ walk (known (now (image .entry)) (flagsOf (itemOf kind))) c ⌝ }
+    ensures { λ r. ⌜ r ≡ walk (known (now (image .entry)) (listed (flagsOf (itemOf kind)))) c ⌝ }
 {
     if kind == 1 {
         return past(only_after(image, c, 1));

@@ -1,20 +1,21 @@
 // Operands, and the fields that a number alone makes.
 ghost use mathlib.Core.Path.{_≡_};
 ghost use Rattle.image.specs.Parse.{many};
-ghost use Rattle.image.specs.Fields.{optional, known};
+ghost use Rattle.image.specs.Fields.{optional};
 ghost use Rattle.image.specs.Image.{var, label, constant, callee, u32, size, type, operand};
 ghost use Rattle.image.specs.Answer.{walk};
 ghost use Rattle.loader.specs.Counts.{countsOf};
 use crate::Counts;
 use image::field::Step;
 use image::field::below_after;
+use image::field::bits_after;
 use image::field::number_after;
 use image::field::past;
 use image::field::place;
-use image::field::scalar_after;
 use image::field::type_after;
 use image::field::up_to_after;
 use image::field::value;
+use value::IrType;
 use value::refusal::BEYOND_COUNT;
 use value::refusal::OVER_LIMIT;
 use value::refusal::UNKNOWN;
@@ -69,12 +70,7 @@ pub fn operand_after(image: &[u8], c: Step, n: Counts) -> Step
     let at = past(tag);
     match value(tag) {
         0 => variable_after(image, at, n),
-        1 => past(up_to_after(image, at, 1, UNKNOWN)),
-        2 | 6 => past(up_to_after(image, at, 0xff, UNKNOWN)),
-        3 | 7 => past(up_to_after(image, at, 0xffff, UNKNOWN)),
-        4 | 8 | 10 | 13 => past(up_to_after(image, at, 0xffff_ffff, UNKNOWN)),
-        5 | 9 | 11 | 14 => past(up_to_after(image, at, 0xffff_ffff_ffff_ffff, UNKNOWN)),
-        12 => past(scalar_after(image, at)),
+        IrType::BOOL_TAG..=IrType::POINTER_TAG => past(bits_after(image, at, value(tag))),
         _ => Step::Stop(UNKNOWN, place(c)),
     }
 }

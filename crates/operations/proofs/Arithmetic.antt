@@ -9,7 +9,6 @@ use native.Mathlib.Omega.{arith}
 use borrow.Author.Tests.{eq-eqb, ne-eqb, eqb-true, le-leb, lt-leb}
 use denote.Enum.Declared.{tagOf}
 use lib.Dec.{T, leb}
-use lib.Ieee.{binary32, binary64}
 use lib.IntN.{ℤ, pos, negℤ, _-ℤ_}
 use lib.Signed.{quotZ, remZ}
 use mir.Syntax.{Width}
@@ -17,12 +16,12 @@ use mir.Val.{SFits, toZ, ofZ}
 use mir.ValLaws.{toZ-ofZ}
 use types.Run.{OneOf}
 use Rattle.value.specs.Answer.{Answer, ok, refused, need, pick, _>>=_}
-use Rattle.value.specs.Floats.{bits32, bits64, single, double, flip}
+use Rattle.value.specs.Floats.{bits32, bits64, single, double}
 use Rattle.value.specs.Ir.{valueOf, irOf, computed}
 use Rattle.operations.specs.Kernel.{Small}
 use Rattle.value.specs.Refusal.{wrongKinds, outsideWidth, zeroDivisor}
 use Rattle.value.specs.Tags.{kindAt}
-use Rattle.value.specs.Value.{Kind, Value, value, Family, Operation, tag, same, family, isUnsigned, isSigned, isFloat, size, width, within, integer, bitsOf, checked, operate, arithmetic, negateAs, negated, isZero, bool, u8, u16, u32, u64, i8, i16, i32, i64, f32, f64, char, asn, pointer}
+use Rattle.value.specs.Value.{Kind, Value, value, Family, Operation, tag, same, family, isUnsigned, isSigned, isFloat, size, width, within, integer, bitsOf, checked, operate, arithmetic, flip, negateAs, negated, isZero, bool, u8, u16, u32, u64, i8, i16, i32, i64, f32, f64, char, asn, pointer}
 use Rattle.value.specs.Value as Believed
 use Rattle.value.specs.declared.Computed.{Computed}
 use Rattle.value.specs.declared.Computed.the-variants as C
@@ -224,10 +223,10 @@ module _ (x : Value) (n : isSigned (family (x .kind)) ≡ false) (y : Value) {t 
 
 -- ---- the sign bit of a float flips
 
-pub minus32 : {x : IrValue} {a r : Single} {b c : ℕ} → x ≡ F32 a → b ≡ bits32 a → c ≡ flip binary32 b → r ≡ single c → C.Value (F32 r) ≡ computed (negated (valueOf x))
+pub minus32 : {x : IrValue} {a r : Single} {b c : ℕ} → x ≡ F32 a → b ≡ bits32 a → c ≡ flip 32 b → r ≡ single c → C.Value (F32 r) ≡ computed (negated (valueOf x))
 unfolding negated computed valueOf irOf family size
-minus32 {r = r} e f g h = ap (λ (r : Single). C.Value (F32 r)) (h ∙ ap single (g ∙ ap (flip binary32) f)) ∙ sym (ap (λ (v : IrValue). computed (negated (valueOf v))) e)
+minus32 {r = r} e f g h = ap (λ (r : Single). C.Value (F32 r)) (h ∙ ap single (g ∙ ap (flip 32) f)) ∙ sym (ap (λ (v : IrValue). computed (negated (valueOf v))) e)
 
-pub minus64 : {x : IrValue} {a r : Double} {b c : ℕ} → x ≡ F64 a → b ≡ bits64 a → c ≡ flip binary64 b → r ≡ double c → C.Value (F64 r) ≡ computed (negated (valueOf x))
+pub minus64 : {x : IrValue} {a r : Double} {b c : ℕ} → x ≡ F64 a → b ≡ bits64 a → c ≡ flip 64 b → r ≡ double c → C.Value (F64 r) ≡ computed (negated (valueOf x))
 unfolding negated computed valueOf irOf family size
-minus64 {r = r} e f g h = ap (λ (r : Double). C.Value (F64 r)) (h ∙ ap double (g ∙ ap (flip binary64) f)) ∙ sym (ap (λ (v : IrValue). computed (negated (valueOf v))) e)
+minus64 {r = r} e f g h = ap (λ (r : Double). C.Value (F64 r)) (h ∙ ap double (g ∙ ap (flip 64) f)) ∙ sym (ap (λ (v : IrValue). computed (negated (valueOf v))) e)

@@ -2,9 +2,8 @@
 ghost use mathlib.Core.Path.{_≡_};
 ghost use lib.Ieee.{binary32, binary64, ofBits};
 ghost use Rattle.value.specs.Divide.{divideBits};
-ghost use Rattle.value.specs.Floats.{flip};
 ghost use Rattle.value.specs.Ir.{valueOf, computed};
-ghost use Rattle.value.specs.Value.{divideFloats};
+ghost use Rattle.value.specs.Value.{divideFloats, flip};
 use value::Computed;
 use value::Double;
 use value::IrValue;
@@ -48,7 +47,7 @@ fn divide64(a: u64, b: u64) -> u64
 
 // The pattern with the other sign.
 pub fn flip32(bits: u32) -> u32
-    ensures { λ r. ⌜ r ≡ flip binary32 bits ⌝ }
+    ensures { λ r. ⌜ r ≡ flip 32 bits ⌝ }
 {
     if bits < 0x8000_0000 {
         bits + 0x8000_0000
@@ -58,7 +57,7 @@ pub fn flip32(bits: u32) -> u32
 }
 
 pub fn flip64(bits: u64) -> u64
-    ensures { λ r. ⌜ r ≡ flip binary64 bits ⌝ }
+    ensures { λ r. ⌜ r ≡ flip 64 bits ⌝ }
 {
     if bits < 0x8000_0000_0000_0000 {
         bits + 0x8000_0000_0000_0000

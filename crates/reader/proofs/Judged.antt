@@ -4,14 +4,13 @@ use native.Mathlib.Omega.{arith}
 use mathlib.Core.Bool.{Bool, true, false}
 use mathlib.Core.List.{List}
 use mathlib.Core.Path.{_≡_, refl, sym, ap, _∙_}
-use mathlib.Core.Option.{none}
-use lib.ListN.{length, getD}
+use lib.ListN.{length}
 use lib.Dec.{leb, eqb}
 use Rattle.value.specs.Answer.{pick}
 use Rattle.value.specs.Refusal.{unknown, overLimit}
 use Rattle.image.specs.Parse.{Got, took, refused, andThen}
 use Rattle.image.specs.Number.{number}
-use Rattle.image.specs.Fields.{such, atMost, known, meant}
+use Rattle.image.specs.Fields.{tested, such, atMost, listed, known, meant}
 use Rattle.image.specs.Image.{Counts, header, versions}
 use Rattle.image.specs.Answer.{shape, after, orElse, placeOf}
 use Rattle.image.specs.declared.field.Step.{Step}
@@ -21,14 +20,14 @@ use Rattle.loader.specs.Counts.{countsOf}
 use Rattle.loader.specs.Tables.{Heads}
 use Rattle.loader.proofs.Turn.{never, then-took}
 use Rattle.loader.proofs.Functions.{heads}
-use Rattle.reader.specs.Header.{tested, begun, headed, answered, answerOf, Reads}
+use Rattle.reader.specs.Header.{begun, headed, answered, answerOf, Reads}
 
 stopped : {A : Type 0} {k p at : ℕ} → Stop k p ≡ At at → A
 stopped h = absurd (let z : _≡_ {A = ℕ} 0 1 = cc in omega arith)
 
 -- a number that passed its test ends where it was read to end
 passed-end : (test : ℕ → Bool) (why : ℕ) (c : Step) (g : Got ℕ) (at : ℕ) → shape (after c (λ q. tested test why q g)) ≡ At at → placeOf (shape g) ≡ at
-unfolding tested andThen
+unfolding andThen
 passed-end test why (Stop n q) g at h = stopped h
 passed-end test why (At p) (refused n q) at h = stopped h
 passed-end test why (At p) (took v next) at h = by-test (test v) h
@@ -40,7 +39,7 @@ passed-end test why (At p) (took v next) at h = by-test (test v) h
 module _ (s : List ℕ) where
   -- a number that is tested where it was read is the field
   limited-field : (most : ℕ) (c : Step) (g : Got ℕ) → ((at : ℕ) → c ≡ At at → g ≡ number s at) → after c (λ at. tested (λ v. leb v most) overLimit at g) ≡ after c (atMost s most)
-  unfolding tested such
+  unfolding such
   limited-field most (At at) g h = ap (tested (λ v. leb v most) overLimit at) (h at refl)
   limited-field most (Stop n q) g h = refl
 
@@ -52,9 +51,9 @@ module _ (s : List ℕ) where
   -- a header that is taken has version 1
   version-one : (n : Counts) (e : ℕ) → header s 0 ≡ took n e → orElse 0 (number s 0) ≡ 1
   unfolding header known andThen
-  version-one n e h = let (v, m, taken, rest) = then-took (known s versions 0) _ h in by-got (number s 0) taken
+  version-one n e h = let (v, m, taken, rest) = then-took (known s (listed versions) 0) _ h in by-got (number s 0) taken
     where
-      by-got : (g : Got ℕ) {v m : ℕ} → andThen g (λ v next. meant (getD versions v none) 0 next) ≡ took v m → orElse 0 g ≡ 1
+      by-got : (g : Got ℕ) {v m : ℕ} → andThen g (λ v next. meant (listed versions v) 0 next) ≡ took v m → orElse 0 g ≡ 1
       by-got (took zero k) h = never h
       by-got (took (suc zero) k) h = refl
       by-got (took (suc (suc v)) k) h = never h
@@ -81,7 +80,7 @@ module _ (s : List ℕ) (len : ℕ) (g₁ g₂ g₃ g₄ g₅ a b c d : Got ℕ)
     (ed : d ≡ after c₄ (λ at. tested (λ v. leb v 512) overLimit at g₅)) (e₅ : c₅ ≡ shape d)
     (na : n .variables ≡ orElse 0 a) (nb : n .constants ≡ orElse 0 b) (nc : n .functions ≡ orElse 0 c) (nd : n .blocks ≡ orElse 0 d) where
   fits : leb (length s) 32768 ≡ true → Heads s c₅ (countsOf n)
-  unfolding begun such tested
+  unfolding begun such
   fits t =
       let begins : c₁ ≡ shape (tested (λ v. eqb v 1) unknown 0 g₁) = e₁ ∙ rw (long, t) refl in
       let ia : a ≡ after c₁ (atMost s 256) = ea ∙ limited-field s 256 c₁ g₂ (next-read s (λ v. eqb v 1) unknown (At 0) c₁ g₁ g₂ begins (read .second)) in

@@ -1,15 +1,14 @@
 -- The header of an image by itself: what loading finds first, as the reader answers it.
 use Prim.Native.Nat.{ℕ}
-use mathlib.Core.Bool.{Bool}
 use mathlib.Core.List.{List}
 use mathlib.Core.Path.{_≡_}
 use lib.ListN.{length}
-use lib.Dec.{leb, eqb}
-use Rattle.value.specs.Answer.{pick}
-use Rattle.value.specs.Refusal.{unknown, overLimit}
-use Rattle.image.specs.Parse.{Got, took, refused, andThen}
+use lib.Dec.{eqb}
+use Rattle.value.specs.Refusal.{unknown}
+use Rattle.image.specs.Parse.{Got, took, refused}
 use Rattle.image.specs.Number.{number}
-use Rattle.image.specs.Image.{Counts, header}
+use Rattle.image.specs.Fields.{tested}
+use Rattle.image.specs.Image.{Counts, unlessLong, header}
 use Rattle.image.specs.Answer.{shape, placeOf}
 use Rattle.image.specs.declared.field.Step.{Step}
 use Rattle.image.specs.declared.field.Step.the-variants.{At, Stop}
@@ -19,14 +18,14 @@ use Rattle.reader.specs.declared.Headed.the-variants.{Taken, Refused}
 
 -- "An over-long image is 4 at place 0, before all else. Then fields in image order": the header's are the first.
 unfoldable pub headed : List ℕ → Got Counts
-headed s = pick (leb (length s) 32768) (header s 0) (refused overLimit 0)
+headed s = unlessLong (length s) (header s 0)
 
 -- "Header: version 1, then counts"
 unfoldable pub answered : Got Counts → Headed
 answered (took n end) = Taken 1 (record { variables = n .variables; constants = n .constants; functions = n .functions; blocks = n .blocks }) end
 answered (refused number place) = Refused number place
 
--- ---- the numbers of the header, and the tests on them
+-- ---- the numbers of the header, and the tests on them: only the private functions speak of these
 
 -- five numbers, each at the place where the one before it ended
 pub record Reads (s : List ℕ) (version variables constants functions blocks : Got ℕ) : Type 0 where
@@ -36,13 +35,9 @@ pub record Reads (s : List ℕ) (version variables constants functions blocks : 
   pub fourth : functions ≡ number s (placeOf (shape constants))
   pub fifth : blocks ≡ number s (placeOf (shape functions))
 
--- a number that was read at a place and passes a test, else the refusal `why` there
-unfoldable pub tested : (test : ℕ → Bool) → (why at : ℕ) → Got ℕ → Got ℕ
-tested test why at g = andThen g (λ v next. pick (test v) (took v next) (refused why at))
-
 -- the version, of an image of this length
 unfoldable pub begun : (length : ℕ) → Got ℕ → Got ℕ
-begun length version = pick (leb length 32768) (tested (λ v. eqb v 1) unknown 0 version) (refused overLimit 0)
+begun length version = unlessLong length (tested (λ v. eqb v 1) unknown 0 version)
 
 -- the answer where the header ends at a step
 unfoldable pub answerOf : (version : ℕ) → Code.Counts → Step → Headed

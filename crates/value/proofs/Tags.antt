@@ -1,14 +1,14 @@
 -- Tags and kinds: each kind has its tag, a number that is no tag names no kind, and one that is no type's tag names no type.
 use mathlib.Core.Path.{_≡_, refl, sym, ap, _∙_}
 use mathlib.Core.Bool.{Bool, true, false}
-use mathlib.Core.Option.{none, some}
+use mathlib.Core.Option.{Option, none, some, Option·some-injective, Option·none-ne-some}
 use Prim.Native.Nat.{ℕ}
 use native.Mathlib.Omega.{arith}
 use mathlib.Core.List.{List, [], _∷_}
 use borrow.Author.Tests.{ne-eqb, eqb-true}
 use lib.Dec.{eqb}
 use Rattle.value.specs.Answer.{pick}
-use Rattle.value.specs.Value.{Kind, tag, bool, u8, u16, u32, u64, i8, i16, i32, i64, f32, f64, char, asn, pointer}
+use Rattle.value.specs.Value.{Kind, IrType, kindOf, tag, bool, u8, u16, u32, u64, i8, i16, i32, i64, f32, f64, char, asn, pointer}
 use Rattle.value.specs.Tags.{named, kinds, kindAt, typeOfKind, typed, typeAt, holds, held}
 use Rattle.value.specs.Ir.{irOf, made, tagged}
 use Rattle.value.specs.declared.Made.the-variants as M
@@ -68,6 +68,47 @@ tags-equal {j} {k} e = same-some (sym (kind-of-tag j) ∙ ap kindAt e ∙ kind-o
   where
     same-some : some j ≡ some k → j ≡ k
     same-some e = cc
+
+-- each type has its kind's tag, and a tag names no other type
+pub type-of-tag : (t : IrType) → typeAt (tag (kindOf t)) ≡ some t
+unfolding kindOf typed typeOfKind
+type-of-tag IrType.Boolean = ap typed (kind-of-tag bool)
+type-of-tag IrType.U8 = ap typed (kind-of-tag u8)
+type-of-tag IrType.U16 = ap typed (kind-of-tag u16)
+type-of-tag IrType.U32 = ap typed (kind-of-tag u32)
+type-of-tag IrType.U64 = ap typed (kind-of-tag u64)
+type-of-tag IrType.I8 = ap typed (kind-of-tag i8)
+type-of-tag IrType.I16 = ap typed (kind-of-tag i16)
+type-of-tag IrType.I32 = ap typed (kind-of-tag i32)
+type-of-tag IrType.I64 = ap typed (kind-of-tag i64)
+type-of-tag IrType.F32 = ap typed (kind-of-tag f32)
+type-of-tag IrType.F64 = ap typed (kind-of-tag f64)
+type-of-tag IrType.Pointer = ap typed (kind-of-tag pointer)
+
+kind-of-type : (k : Kind) (t : IrType) → typeOfKind k ≡ some t → kindOf t ≡ k
+unfolding kindOf typeOfKind
+kind-of-type bool t e = sym (ap kindOf (Option·some-injective _ _ e))
+kind-of-type u8 t e = sym (ap kindOf (Option·some-injective _ _ e))
+kind-of-type u16 t e = sym (ap kindOf (Option·some-injective _ _ e))
+kind-of-type u32 t e = sym (ap kindOf (Option·some-injective _ _ e))
+kind-of-type u64 t e = sym (ap kindOf (Option·some-injective _ _ e))
+kind-of-type i8 t e = sym (ap kindOf (Option·some-injective _ _ e))
+kind-of-type i16 t e = sym (ap kindOf (Option·some-injective _ _ e))
+kind-of-type i32 t e = sym (ap kindOf (Option·some-injective _ _ e))
+kind-of-type i64 t e = sym (ap kindOf (Option·some-injective _ _ e))
+kind-of-type f32 t e = sym (ap kindOf (Option·some-injective _ _ e))
+kind-of-type f64 t e = sym (ap kindOf (Option·some-injective _ _ e))
+kind-of-type char t e = absurd (Option·none-ne-some t e)
+kind-of-type asn t e = absurd (Option·none-ne-some t e)
+kind-of-type pointer t e = sym (ap kindOf (Option·some-injective _ _ e))
+
+pub tag-of-type : (n : ℕ) (t : IrType) → typeAt n ≡ some t → tag (kindOf t) ≡ n
+unfolding typed
+tag-of-type n t e = go (kindAt n) refl e
+  where
+    go : (o : Option Kind) → kindAt n ≡ o → typed o ≡ some t → tag (kindOf t) ≡ n
+    go none h e = absurd (Option·none-ne-some t e)
+    go (some k) h e = ap tag (kind-of-type k t e) ∙ tag-of-kind n k h
 
 -- of a number that is k's tag
 module _ (k : Kind) (b : ℕ) {n : ℕ} (e : n ≡ tag k) where

@@ -1,7 +1,7 @@
 -- The floats of the IR: a number, or a NaN kept to the bit.
-use Prim.Native.Nat.{ℕ, _+_, _*_, _%_}
+use Prim.Native.Nat.{ℕ}
 use mathlib.Core.Bool.{cond}
-use lib.Ieee.{Format, binary32, binary64, top, toBits, ofBits, nanBits}
+use lib.Ieee.{binary32, binary64, toBits, ofBits, nanBits}
 use Rattle.value.specs.declared.Single.{Single}
 use Rattle.value.specs.declared.Double.{Double}
 use Rattle.value.specs.declared.Single.the-variants as S
@@ -22,7 +22,3 @@ single b = cond (nanBits binary32 b) (S.Nan b) (S.Number (ofBits binary32 b))
 
 abbrev pub double : ℕ → Double
 double b = cond (nanBits binary64 b) (D.Nan b) (D.Number (ofBits binary64 b))
-
--- the pattern with the other sign
-abbrev pub flip : Format → ℕ → ℕ
-flip f b = (b + top f) % (2 * top f)

@@ -6,7 +6,7 @@ use mathlib.Core.Option.{Option, none, some}
 use lib.Dec.{ltb, eqb}
 use lib.ListN.{getD}
 use Rattle.value.specs.Answer.{pick}
-use Rattle.value.specs.Value.{Kind, IrType, IntCmp, FloatCmp, tag, width, isScalar, bool, u8, u16, u32, u64, i8, i16, i32, i64, f32, f64, char, asn, pointer}
+use Rattle.value.specs.Value.{Kind, IrType, IntCmp, FloatCmp, tag, same, size, width, isScalar, bool, u8, u16, u32, u64, i8, i16, i32, i64, f32, f64, char, asn, pointer}
 use Rattle.value.specs.Value as Believed
 
 -- the kind of the list that has this tag
@@ -48,20 +48,8 @@ typeAt n = typed (kindAt n)
 
 -- the bits of a value lie below 2 ^ width; a Bool's are 0 or 1, and a Char's are a scalar value
 unfoldable pub holds : Kind → ℕ → Bool
-holds bool b = ltb b 2
-holds char b = isScalar b
-holds u8 b = ltb b (2 ^ 8)
-holds u16 b = ltb b (2 ^ 16)
-holds u32 b = ltb b (2 ^ 32)
-holds u64 b = ltb b (2 ^ 64)
-holds i8 b = ltb b (2 ^ 8)
-holds i16 b = ltb b (2 ^ 16)
-holds i32 b = ltb b (2 ^ 32)
-holds i64 b = ltb b (2 ^ 64)
-holds f32 b = ltb b (2 ^ 32)
-holds f64 b = ltb b (2 ^ 64)
-holds asn b = ltb b (2 ^ 32)
-holds pointer b = ltb b (2 ^ 64)
+unfolding tag size
+holds k b = pick (same k bool) (ltb b 2) (pick (same k char) (isScalar b) (ltb b (2 ^ width k)))
 
 -- "a value too large for its width or kind", or of no kind at all, is none
 unfoldable pub held : Option Kind → ℕ → Bool
@@ -80,3 +68,24 @@ intCmpAt n = getD intCmps n none
 
 unfoldable pub floatCmpAt : ℕ → Option FloatCmp
 floatCmpAt n = getD floatCmps n none
+
+-- and back: the number that names a comparison
+abbrev pub intCmpNumber : IntCmp → ℕ
+intCmpNumber IntCmp.Eq = 0
+intCmpNumber IntCmp.Ne = 1
+intCmpNumber IntCmp.ULt = 2
+intCmpNumber IntCmp.ULe = 3
+intCmpNumber IntCmp.UGt = 4
+intCmpNumber IntCmp.UGe = 5
+intCmpNumber IntCmp.SLt = 6
+intCmpNumber IntCmp.SLe = 7
+intCmpNumber IntCmp.SGt = 8
+intCmpNumber IntCmp.SGe = 9
+
+abbrev pub floatCmpNumber : FloatCmp → ℕ
+floatCmpNumber FloatCmp.FEq = 0
+floatCmpNumber FloatCmp.FNe = 1
+floatCmpNumber FloatCmp.FLt = 2
+floatCmpNumber FloatCmp.FLe = 3
+floatCmpNumber FloatCmp.FGt = 4
+floatCmpNumber FloatCmp.FGe = 5

@@ -186,10 +186,14 @@ divideFloats x y =
     need (same (x .kind) (y .kind) && isFloat (family (x .kind))) wrongKinds
     (ok (value (x .kind) (divideBits (formatOf (x .kind)) (x .bits) (y .bits))))
 
+-- bits of this width with the top one flipped
+abbrev pub flip : (width bits : ℕ) → ℕ
+flip w b = (b + 2 ^ (w - 1)) % 2 ^ w
+
 -- "Negate: signed integers and floats; a float's sign bit flips."
 abbrev pub negateAs : Family → Value → Answer Value
 negateAs signed v = checked (v .kind) (negℤ (integer v))
-negateAs floating v = ok (value (v .kind) ((v .bits + 2 ^ (width (v .kind) - 1)) % 2 ^ width (v .kind)))
+negateAs floating v = ok (value (v .kind) (flip (width (v .kind)) (v .bits)))
 negateAs unsigned v = refused wrongKinds
 negateAs neither v = refused wrongKinds
 

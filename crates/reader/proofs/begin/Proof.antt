@@ -1,13 +1,13 @@
 -- `begin` meets its contract, by what its tests say.
 use borrow.Author.Tests.{le-leb, lt-leb, eq-eqb, ne-eqb}
 use Rattle.image.specs.Parse.{andThen}
-use Rattle.reader.specs.Header.{tested, begun}
+use Rattle.reader.specs.Header.{begun}
 use borrow.Author.Needs.{needs}
 use Rattle.reader.proofs.begin.Statement.{statement}
 use Rattle.reader.proofs.begin.Tie as tie
 
 returns : tie.Need-returns
-unfolding begun tested andThen
+unfolding begun andThen
 returns c = rw (lt-leb _ _ (c .if1 .taken))
 
 enum-known-version : tie.Need-enum-known-version
@@ -17,15 +17,15 @@ enum-known-version-2 : tie.Need-enum-known-version-2
 enum-known-version-2 c = search needs
 
 returns-2 : tie.Need-returns-2
-unfolding begun tested andThen
+unfolding begun andThen
 returns-2 c = rw (le-leb _ _ (c .before .before .before .before .if1 .left), c .before .before .version .given .1, eq-eqb _ _ (c .if2 .taken))
 
 returns-3 : tie.Need-returns-3
-unfolding begun tested andThen
+unfolding begun andThen
 returns-3 c = rw (le-leb _ _ (c .before .before .before .before .if1 .left), c .before .before .version .given .1, ne-eqb _ _ (c .if2 .left))
 
 returns-4 : tie.Need-returns-4
-unfolding begun tested andThen
+unfolding begun andThen
 returns-4 c = rw (le-leb _ _ (c .before .before .before .if1 .left), c .before .version2 .given .1)
 
 pub begin-spec : {M : Type 1} → statement M

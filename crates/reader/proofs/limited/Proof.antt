@@ -1,7 +1,6 @@
 -- `limited` meets its contract, by what the test of the number says; after a refusal the refusal stays.
 use borrow.Author.Tests.{le-leb, lt-leb}
 use Rattle.image.specs.Parse.{andThen}
-use Rattle.reader.specs.Header.{tested}
 use borrow.Author.Needs.{needs}
 use Rattle.reader.proofs.limited.Statement.{statement}
 use Rattle.reader.proofs.limited.Tie as tie
@@ -19,19 +18,19 @@ enum-known-c-2 : tie.Need-enum-known-c-2
 enum-known-c-2 c = search needs
 
 returns : tie.Need-returns
-unfolding tested andThen
+unfolding andThen
 returns c = rw (c .before .before .before .before .before .c .given .1, c .before .before .n .given .1, le-leb _ _ (c .if1 .taken))
 
 returns-2 : tie.Need-returns-2
-unfolding tested andThen
+unfolding andThen
 returns-2 c = rw (c .before .before .before .before .before .c .given .1, c .before .before .n .given .1, lt-leb _ _ (c .if1 .left))
 
 returns-3 : tie.Need-returns-3
-unfolding tested andThen
+unfolding andThen
 returns-3 c = rw (c .before .before .before .before .c .given .1, c .before .n2 .given .1)
 
 returns-4 : tie.Need-returns-4
-unfolding tested andThen
+unfolding andThen
 returns-4 c = rw (c .before .c2 .given .1)
 
 pub limited-spec : {M : Type 1} → statement M

@@ -7,7 +7,7 @@ use Rattle.image.specs.Image.{var, label, slot}
 use Rattle.image.specs.Answer.{shape, after, orElse, walk}
 use Rattle.loader.specs.Counts.{countsOf}
 use Rattle.image.specs.Image.{flagsOf, mostParameters}
-use Rattle.image.specs.Fields.{known}
+use Rattle.image.specs.Fields.{listed, known}
 use Rattle.loader.specs.Counts.{itemOf}
 use Rattle.image.proofs.Shapes.{listOf-read}
 use Rattle.loader.proofs.Functions.{function-walk}
@@ -74,7 +74,7 @@ returns c =
     let c₁ : c .before .before .before .before .before .before .before .before .before .before .before .before .before .before .before .past .result ≡ walk (below s 2 unknown) (a .c) = c .before .before .before .before .before .before .before .before .before .before .before .before .before .before .before .past .ensures ∙ ap shape (c .before .before .before .before .before .before .before .before .before .before .before .before .before .before .before .before .below-after .ensures) in
     let c₂ = c .before .before .before .before .before .before .before .before .before .before .before .before .before .before .label-after .ensures ∙ ap (walk (label s n)) c₁ in
     let c₄ = c .before .before .before .before .before .before .before .before .before .before .before .before .variable-after2 .ensures ∙ ap (walk (var s n)) (c .before .before .before .before .before .before .before .before .before .before .before .before .before .variable-after .ensures ∙ ap (walk (var s n)) c₂) in
-    let c₅ = c .before .before .before .before .before .before .before .before .before .before .flag-after .ensures ∙ ap (walk (known s (flagsOf (itemOf (c .before .before .before .before .before .before .before .before .before .before .before .value .result))))) c₄ in
+    let c₅ = c .before .before .before .before .before .before .before .before .before .before .flag-after .ensures ∙ ap (walk (known s (listed (flagsOf (itemOf (c .before .before .before .before .before .before .before .before .before .before .before .value .result)))))) c₄ in
     let most : c .before .before .before .before .before .before .before .before .most-parameters .result ≡ mostParameters (itemOf (c .before .before .before .before .before .before .before .before .before .before .before .value .result)) = c .before .before .before .before .before .before .before .before .most-parameters .ensures ∙ ap (λ (k : ℕ). mostParameters (itemOf k)) (c .before .before .before .before .before .before .before .before .before .value2 .ensures ∙ sym (c .before .before .before .before .before .before .before .before .before .before .before .value .ensures)) in
     let c₆ : c .before .before .before .before .variables-after .result ≡ walk (listOf s (mostParameters (itemOf (c .before .before .before .before .before .before .before .before .before .before .before .value .result))) (var s n)) (c .before .before .before .before .before .before .before .before .before .before .flag-after .result) = rw (← most) (listOf-read s (var s n) (c .before .before .before .before .before .before .before .before .before .before .flag-after .result) (c .before .before .before .before .before .before .before .before .most-parameters .result) (c .before .before .before .before .before .before .before .up-to-after .ensures) (c .before .before .before .before .before .before .past2 .ensures) (c .before .before .before .before .before .value3 .ensures) (c .before .before .before .before .variables-after .ensures)) in
     let c₇ : c .slots-after .result ≡ walk (listOf s 16 (slot s n)) (c .before .before .before .before .variables-after .result) = listOf-read s (slot s n) (c .before .before .before .before .variables-after .result) 16 (c .before .before .before .up-to-after2 .ensures) (c .before .before .past3 .ensures) (c .before .value4 .ensures) (c .slots-after .ensures) in
