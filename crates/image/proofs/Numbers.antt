@@ -3,18 +3,18 @@ use Prim.Native.Nat.{ℕ, zero, suc, _+_, _-_, _*_, _≤_}
 use native.Mathlib.Omega.{arith}
 use mathlib.Core.Bool.{Bool, true, false}
 use mathlib.Core.Path.{_≡_, refl, subst}
-use mathlib.Core.List.{List, [], _∷_, map}
-use mathlib.Core.Option.{Option, none, some}
+use mathlib.Core.List.{List, [], _∷_}
+use mathlib.Core.Option.{Option, none, some, Option·map}
 use lib.ListN.{length, getD}
 use lib.Dec.{ltb, leb, eqb}
 use Rattle.value.specs.Answer.{pick}
 use Rattle.value.specs.Refusal.{bytesRunOut, malformed, unknown, overLimit, beyondCount, leftOver}
 use Rattle.value.specs.Value.{Kind}
-use Rattle.value.specs.Tags.{kinds}
+use Rattle.value.specs.Tags.{kindAt}
 use Rattle.image.specs.Parse.{Got, took, refused, Field, andThen, give, many, within, placed, _>>=_, _<*>_, one, two, three, four, five}
 use Rattle.image.specs.Number.{groups, number}
-use Rattle.image.specs.Fields.{such, atMost, meant, known, optional, listOf, raw, bytes, atEnd}
-use Rattle.image.specs.Image.{Counts, header, literalOf, u32, size, type, var, label, constant, callee, operand, slot, branch, declared, table, instruction, function, constants, blocks, whole, image, loaded}
+use Rattle.image.specs.Fields.{such, atMost, meant, listed, known, optional, listOf, raw, bytes, atEnd}
+use Rattle.image.specs.Image.{Counts, header, literalOf, u32, size, type, var, label, constant, callee, form, operand, slot, branch, declared, table, instruction, function, constants, blocks, whole, image, loaded}
 use Rattle.image.specs.Program.{Program, Operand, Jump, Switch, Assign, ConstantAddress, Call, Return, IntCmp′, FloatCmp′, Add, Sub, Mul, Div, Mod, FDiv, Not, Negate, Offset, Initialize, Write, Read, Copy, Drop}
 use Rattle.image.proofs.Parts.{parts, meant-some}
 
@@ -129,18 +129,18 @@ module _ (s : List ℕ) where
   meant-gives none at end = refusing {k = unknown} (omega arith)
   meant-gives (some a) at end = taken
 
-  known-gives : {A : Type 0} (items : List (Option A)) → Giving (known s items)
+  known-gives : {A : Type 0} (item : ℕ → Option A) → Giving (known s item)
   unfolding known
-  known-gives items = record { gives = λ at. then-from (number-gives .gives at) (λ v end e. meant-gives (getD items v none) at end) }
+  known-gives item = record { gives = λ at. then-from (number-gives .gives at) (λ v end e. meant-gives (item v) at end) }
 
   -- a number that says which field follows
-  tabled-gives : {A : Type 0} (items : List (Option (Field A))) → All items → Giving (known s items >>= λ p. p)
-  tabled-gives {A} items all = record { gives = λ at. then-from (known-gives items .gives at) (λ p end e. listed at end p e .gives end) }
+  tabled-gives : {A : Type 0} (item : ℕ → Option (Field A)) → ((v : ℕ) (p : Field A) → item v ≡ some p → Giving p) → Giving (known s item >>= λ p. p)
+  tabled-gives {A} item each = record { gives = λ at. then-from (known-gives item .gives at) (λ p end e. follows at end p e .gives end) }
     where
-      listed : (at end : ℕ) (p : Field A) → known s items at ≡ took p end → Giving p
-      listed at end p e =
-          let i = parts (number s at) (λ v end. meant (getD items v none) at end) p end (unfold known in e) in
-          all-at items all (i .value) p (meant-some (getD items (i .value) none) at (i .place) end p (i .then′) .0)
+      follows : (at end : ℕ) (p : Field A) → known s item at ≡ took p end → Giving p
+      follows at end p e =
+          let i = parts (number s at) (λ v end. meant (item v) at end) p end (unfold known in e) in
+          each (i .value) p (meant-some (item (i .value)) at (i .place) end p (i .then′) .0)
 
   -- ---- shapes of fields
 
@@ -169,10 +169,6 @@ module _ (s : List ℕ) where
   literal-gives : (k : Kind) → Giving (literalOf s k)
   unfolding literalOf
   literal-gives k = one-gives _ (such-gives _ unknown (omega arith))
-
-  literals : (ks : List Kind) → All (map (λ k. some (literalOf s k)) ks)
-  literals [] = no-more
-  literals (k ∷ ks) = literal-gives k & literals ks
 
   u32-gives : Giving (u32 s)
   unfolding u32
@@ -208,9 +204,14 @@ module _ (s : List ℕ) where
     unfolding callee
     callee-gives = such-gives _ beyondCount (omega arith)
 
+    form-gives : (b : Bool) (k : Option Kind) (p : Field Operand) → pick b (some (one Operand.variable (var s n))) (Option·map (literalOf s) k) ≡ some p → Giving p
+    form-gives true k p e = let same : one Operand.variable (var s n) ≡ p = cc in subst Giving same (one-gives Operand.variable var-gives)
+    form-gives false none p e = absurd (let z : _≡_ {A = ℕ} 0 1 = cc in omega arith)
+    form-gives false (some k) p e = let same : literalOf s k ≡ p = cc in subst Giving same (literal-gives k)
+
     operand-gives : Giving (operand s n)
     unfolding operand
-    operand-gives = tabled-gives _ (one-gives Operand.variable var-gives & literals kinds)
+    operand-gives = tabled-gives (form s n) (λ v p e. form-gives (eqb v 0) (kindAt v) p e)
 
     slot-gives : Giving (slot s n)
     unfolding slot
@@ -228,13 +229,13 @@ module _ (s : List ℕ) where
     pair-gives : {Z : Type 0} (f : ℕ → Operand → Operand → Z) → Giving (three f (var s n) (operand s n) (operand s n))
     pair-gives f = three-gives f var-gives operand-gives operand-gives
 
-    chosen-gives : {A Z : Type 0} (f : ℕ → A → Operand → Operand → Z) (items : List (Option A)) → Giving (four f (var s n) (known s items) (operand s n) (operand s n))
-    chosen-gives f items = four-gives f var-gives (known-gives items) operand-gives operand-gives
+    chosen-gives : {A Z : Type 0} (f : ℕ → A → Operand → Operand → Z) (item : ℕ → Option A) → Giving (four f (var s n) (known s item) (operand s n) (operand s n))
+    chosen-gives f item = four-gives f var-gives (known-gives item) operand-gives operand-gives
 
     instruction-gives : Giving (instruction s n)
     unfolding instruction table
     instruction-gives =
-        tabled-gives (table s n) (
+        tabled-gives (listed (table s n)) (all-at (table s n) (
         one-gives Jump label-gives
         & three-gives Switch operand-gives (list-gives 64 branch-gives) label-gives
         & three-gives Assign var-gives operand-gives type-gives
@@ -257,7 +258,7 @@ module _ (s : List ℕ) where
         & three-gives Read var-gives operand-gives type-gives
         & three-gives Copy operand-gives operand-gives u32-gives
         & one-gives Drop operand-gives
-        & no-more)
+        & no-more))
 
     function-gives : Giving (function s n)
     unfolding function
