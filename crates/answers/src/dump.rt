@@ -22,7 +22,7 @@ pub fn write_state(out: &mut [u8], at: Written, running: u64, next: u64, counter
 }
 
 // A variable's number, or `-` for none.
-pub fn write_var(out: &mut [u8], at: Written, var: Var) -> Written
+fn write_var(out: &mut [u8], at: Written, var: Var) -> Written
     ensures { λ r. ⌜ text r (now (out .exit)) ≡ puts (varText var) (text at (now (out .entry))) ⌝ }
 {
     match var {
@@ -52,7 +52,7 @@ fn write_more(out: &mut [u8], at: Written, lengths: &[u64], from: usize) -> Writ
 }
 
 // The lengths of a frame's allocations, parted by commas, or `-` where it has none.
-pub fn write_lengths(out: &mut [u8], at: Written, lengths: &[u64]) -> Written
+fn write_lengths(out: &mut [u8], at: Written, lengths: &[u64]) -> Written
     ensures { λ r. ⌜ text r (now (out .exit)) ≡ puts (lengthsText (now (lengths .entry))) (text at (now (out .entry))) ⌝ }
 {
     if lengths.len() == 0 {
@@ -63,7 +63,7 @@ pub fn write_lengths(out: &mut [u8], at: Written, lengths: &[u64]) -> Written
 }
 
 // ` ID:PLACE:VAR:`
-pub fn write_frame_head(out: &mut [u8], at: Written, id: u64, place: u64, var: Var) -> Written
+fn write_frame_head(out: &mut [u8], at: Written, id: u64, place: u64, var: Var) -> Written
     ensures { λ r. ⌜ text r (now (out .exit)) ≡ puts (frameHead id place var) (text at (now (out .entry))) ⌝ }
 {
     let a = write_labelled(out, at, b" ", id);

@@ -17,7 +17,7 @@ pub fn write_labelled(out: &mut [u8], at: Written, label: &[u8], n: u64) -> Writ
 }
 
 // `returned KIND BITS`
-pub fn write_value(out: &mut [u8], at: Written, tag: u64, bits: u64) -> Written
+fn write_value(out: &mut [u8], at: Written, tag: u64, bits: u64) -> Written
     ensures { λ r. ⌜ text r (now (out .exit)) ≡ puts (returnedValue tag bits) (text at (now (out .entry))) ⌝ }
 {
     let a = write_bytes(out, at, b"returned ");
@@ -102,7 +102,7 @@ pub fn write_read_bytes(out: &mut [u8], at: Written, bytes: &[u8]) -> Written
 }
 
 // The first three counts of `write_taken`.
-pub fn write_counts(
+fn write_counts(
     out: &mut [u8],
     at: Written,
     variables: u64,

@@ -13,17 +13,12 @@ use memory::MAX_DEPTH;
 use memory::MAX_POINTERS;
 use memory::Registers;
 use words::Written;
+use words::bound::least;
 use words::text::write_bytes;
 ghost use mathlib.Core.Path.{_≡_};
 ghost use Prim.Native.Nat.{_-_, _<_, _≤_, min};
 ghost use Rattle.words.specs.Text.{text, puts};
 ghost use Rattle.by_hand.specs.State.{varOf, lengthsOf, frameAt, framesText, pointerAt, each, pointersText, variableAt, noneSet, variablesText, liveBytes, dumpLine};
-
-fn least(a: usize, b: usize) -> usize
-    ensures { λ r. ⌜ r ≡ min a b ⌝ }
-{
-    if a < b { a } else { b }
-}
 
 // The place that a word says in a table of `room`.
 fn place_in(word: u64, room: usize) -> usize

@@ -9,6 +9,7 @@ use memory::MAX_DEPTH;
 use memory::MAX_POINTERS;
 use memory::PointerRecord;
 use memory::Registers;
+use words::bound::least;
 ghost use mathlib.Core.Path.{_≡_};
 ghost use Prim.Native.Nat.{_-_, _<_, min};
 ghost use Rattle.memory.specs.Tables.{pointer, withPointers};
@@ -123,12 +124,6 @@ fn put_constants(pointers: &mut [u64], from: usize, to: usize, constant: u64)
         put_pointer(pointers, p, q);
         p += 1;
     }
-}
-
-fn least(a: usize, b: usize) -> usize
-    ensures { λ r. ⌜ r ≡ min a b ⌝ }
-{
-    if a < b { a } else { b }
 }
 
 // So many pointers more to a constant.

@@ -40,11 +40,11 @@ module _ (w : List ℕ) (ns : List (List ℕ)) (i : ℕ) {whole : ℕ} (e : i + 
 module _ (ws : List (List ℕ)) (what : ℕ) (e : what ≡ placeOf (getD ws 1 []) (words pokeNames)) where
   pub no-poke : 10 < what → bad 1 ≡ pokeRead ws
   unfolding pokeRead
-  no-poke h = rw (← e, lt-ltb 10 what h)
+  no-poke h = rw (← e, lt-ltb 22 (12 + what) (omega arith))
 
   pub a-poke : what ≤ 10 → good (12 + what) 2 ≡ pokeRead ws
   unfolding pokeRead
-  a-poke h = rw (← e, le-ltb 10 what h)
+  a-poke h = rw (← e, le-ltb 22 (12 + what) (omega arith))
 
 module _ (ws : List (List ℕ)) (command : ℕ) (e : command ≡ placeOf (getD ws 0 []) (words commandNames)) where
   pub no-command : 11 < command → bad 0 ≡ nameRead ws

@@ -1,4 +1,4 @@
--- The commands of the console, each under its name: its number is its place among the names, and after `poke` goes on from 12.
+-- The commands of the console, each under its name: its number is its place among the names, and after `poke` the numbers go on.
 use Prim.Native.Nat.{ℕ}
 
 abbrev pub image : ℕ

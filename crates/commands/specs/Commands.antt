@@ -8,13 +8,14 @@ use Rattle.value.specs.Answer.{pick}
 use Rattle.value.specs.Value.{sameBytes}
 use Rattle.words.specs.Ascii.{ascii}
 use Rattle.words.specs.Words.{words}
+use Rattle.commands.specs.Command as Command
 use Rattle.commands.specs.Parts.{nothing, any, flag, variable, listRoom, size, budget, frame, var, kind, bits, hex, someValues, good, bad, partAfter, endAfter, bytesAfter, tagsAfter, bitsAfter}
 use Rattle.commands.specs.declared.Spot.{Spot}
 use Rattle.commands.specs.declared.Asked.{Asked}
 
 -- ---- names
 
--- the commands by their numbers, 0 to 11, and after `poke` those from 12 on
+-- the commands in the order of their numbers, and those after `poke`
 abbrev pub commandNames : List ℕ
 commandNames = ascii "image fresh allocate write read start step run live rewrite dump poke"
 
@@ -32,13 +33,13 @@ placeOf w (n ∷ ns) =
 unfoldable pub pokeRead : List (List ℕ) → Spot
 pokeRead ws =
     let what = placeOf (getD ws 1 []) (words pokeNames) in
-    pick (ltb 10 what) (bad 1) (good (12 + what) 2)
+    pick (ltb Command.pokeConst (Command.pokeCounter + what)) (bad 1) (good (Command.pokeCounter + what) 2)
 
 unfoldable pub nameRead : List (List ℕ) → Spot
 nameRead ws =
     let command = placeOf (getD ws 0 []) (words commandNames) in
     let poke = pokeRead ws in
-    pick (ltb 11 command) (bad 0) (pick (ltb command 11) (good command 1) poke)
+    pick (ltb Command.poke command) (bad 0) (pick (ltb command Command.poke) (good command 1) poke)
 
 -- ---- the parts of each command
 

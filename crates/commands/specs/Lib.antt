@@ -1,3 +1,4 @@
 pub mod Command
 pub mod Parts
 pub mod Commands
+pub mod Named

@@ -221,15 +221,17 @@ fn poke_named(line: &[u8]) -> Spot
         1,
         b"counter next running var unset frame id place rvar local const",
     );
-    if 10 < what {
+    let last = POKE_CONST - POKE_COUNTER;
+    if last < what as u64 {
         return Spot {
             value: 0,
             next: 1,
             bad: 1,
         };
     }
+    let value = POKE_COUNTER + what as u64;
     Spot {
-        value: POKE_COUNTER + what as u64,
+        value,
         next: 2,
         bad: 0,
     }
@@ -243,17 +245,17 @@ fn named(line: &[u8]) -> Spot
         line,
         0,
         b"image fresh allocate write read start step run live rewrite dump poke",
-    );
-    if 11 < command {
+    ) as u64;
+    if POKE < command {
         return Spot {
             value: 0,
             next: 0,
             bad: 1,
         };
     }
-    if command < 11 {
+    if command < POKE {
         return Spot {
-            value: command as u64,
+            value: command,
             next: 1,
             bad: 0,
         };
@@ -266,7 +268,7 @@ fn sort_of(command: u64, part: usize) -> u8
     requires { ⌜ part < 5 ⌝ }
     ensures { λ r. ⌜ r ≡ sortOf command part ⌝ }
 {
-    if 23 < command {
+    if START_LINE < command {
         return 0;
     }
     let table = rows();

@@ -15,7 +15,7 @@ use Rattle.image.specs.Image.{loaded}
 use Rattle.memory.specs.Tables.{State, freshOf}
 use Rattle.eval.specs.Entry.{runEntered, stepEntered, readEntered}
 use Rattle.eval.specs.Host.{hostAllocated, hostWritten}
-use Rattle.telling.specs.Runs.{begunOf, budgetOf, longest}
+use Rattle.telling.specs.Starts.{begunOf, budgetOf, longest}
 use Rattle.telling.proofs.Room.{ran-size, start-size, step-size, fresh-size, given-size, outcome-size, unread-size, read-size, read-inside, rewritten-size, part-count, live-size}
 use Rattle.console.specs.Turns as T
 use Rattle.console.specs.Turns.{Done, Performed, registersOf}

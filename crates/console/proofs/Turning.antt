@@ -35,7 +35,7 @@ use Rattle.console.specs.declared.Told.{Told}
 use Rattle.console.specs.declared.Turn.{Turn}
 use Rattle.telling.specs.Told.{line, ranLine, startLine, stepLine, freshLine, givenLine, outcomeLine, readLine, rewrittenLine}
 use Rattle.telling.specs.Listed.{liveLineOf}
-use Rattle.telling.specs.Runs.{begunOf, budgetOf, unreadLine, zeros}
+use Rattle.telling.specs.Starts.{begunOf, budgetOf, unreadLine, zeros}
 use Rattle.console.specs.Turns as T
 use Rattle.console.specs.Turns.{done, still, registersOf, fromEntering, fromRunning, fromAll, fromOut, fromBoth, fromPoked, Left, left, told, leaving, turn, Kept, kept, keptFrom, keeping}
 use Rattle.telling.proofs.Telling.{take-least, part-told}

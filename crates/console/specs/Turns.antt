@@ -25,7 +25,7 @@ use Rattle.eval.specs.Host.{hostAllocated, hostWritten}
 use Rattle.eval.specs.After.{afterMoved, afterEntered, afterRun, afterGiven}
 use Rattle.telling.specs.Told.{line, ranLine, startLine, stepLine, freshLine, givenLine, outcomeLine, readLine, rewrittenLine}
 use Rattle.telling.specs.Listed.{liveLineOf}
-use Rattle.telling.specs.Runs.{begunOf, budgetOf, unreadLine, zeros, longest}
+use Rattle.telling.specs.Starts.{begunOf, budgetOf, unreadLine, zeros, longest, valueRoom}
 use Rattle.console.specs.declared.Told.{Told}
 use Rattle.console.specs.declared.Turn.{Turn}
 
@@ -172,18 +172,18 @@ performedOf n a ts bs image bytes t =
 
 -- ---- one line
 
--- what the line asks, with room for the context and 64 arguments
+-- what the line asks
 abbrev pub lineAsked : (depth hexRoom : ℕ) → (line : List ℕ) → Asked
-lineAsked d h l = rowAsked (nameRead (words l) .value) d h 65 (nameRead (words l)) (words l)
+lineAsked d h l = rowAsked (nameRead (words l) .value) d h valueRoom (nameRead (words l)) (words l)
 
 abbrev pub lineBytes : (depth : ℕ) → (line before : List ℕ) → List ℕ
 lineBytes d l before = rowBytes (nameRead (words l) .value) d (nameRead (words l)) (words l) before
 
 abbrev pub lineTags : (depth : ℕ) → (line : List ℕ) → List ℕ
-lineTags d l = rowTags (nameRead (words l) .value) d 65 (nameRead (words l)) (words l) zeros
+lineTags d l = rowTags (nameRead (words l) .value) d valueRoom (nameRead (words l)) (words l) zeros
 
 abbrev pub lineBits : (depth : ℕ) → (line : List ℕ) → List ℕ
-lineBits d l = rowBits (nameRead (words l) .value) d 65 (nameRead (words l)) (words l) zeros
+lineBits d l = rowBits (nameRead (words l) .value) d valueRoom (nameRead (words l)) (words l) zeros
 
 -- a line that was read is done, on the machine and on what it left in the bytes
 unfoldable pub readOf : (n : ℕ) → Asked → (tags bits image bytes : List ℕ) → State → Performed

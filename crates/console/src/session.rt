@@ -11,10 +11,11 @@ use commands::command;
 use commands::command::read_line;
 use memory::Registers;
 use telling::LONGEST;
-use telling::bound::least;
+use telling::VALUES;
+use telling::answer::write_unread;
 use telling::bound::within;
-use telling::start_line::write_unread;
 use words::Written;
+use words::bound::least;
 use words::text::write_bytes;
 ghost use mathlib.Core.Path.{_≡_};
 ghost use lib.ListN.{take};
@@ -180,8 +181,8 @@ pub fn answer(
     if LONGEST < line.len() {
         return turn(tell(m, write_unread(out, 0)), length);
     }
-    let mut tags = [0u64; 65];
-    let mut bits = [0u64; 65];
+    let mut tags = [0u64; VALUES];
+    let mut bits = [0u64; VALUES];
     let asked = read_line(line, m.depth, bytes, &mut tags, &mut bits);
     answer_read(
         m,

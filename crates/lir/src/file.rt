@@ -1,7 +1,5 @@
 // Reading a file, and standard input.
-use crate::bound::within;
 use libc::STDIN_FILENO;
-use words::word::find;
 
 // What was read: so many bytes, nothing more, or a failure.
 pub enum Got {
@@ -76,47 +74,6 @@ pub fn read_image(image: &mut [u8]) -> Got {
         return Got::Failed;
     }
     read_path(&path[..n], image)
-}
-
-// Whether a line end stands among the bytes that were read last, those from `from` to `to`.
-fn has_end(buffer: &[u8], from: usize, to: usize) -> bool {
-    let end = within(to, buffer);
-    find(&buffer[..end], from, b'\n') < end
-}
-
-// Reads until the first line has ended, and answers how many bytes were read.
-fn read_to_line_end(buffer: &mut [u8]) -> Got {
-    let mut n = 0usize;
-    let mut turns = buffer.len();
-    while 0 < turns {
-        match read_at(STDIN_FILENO, buffer, n) {
-            Got::Bytes(more) => {
-                let next = std::num::wrapping_add_usize(n, more);
-                if has_end(buffer, n, next) {
-                    return Got::Bytes(next);
-                }
-                n = next;
-            }
-            Got::End => return Got::Bytes(n),
-            Got::Failed => return Got::Failed,
-        }
-        turns -= 1;
-    }
-    Got::Bytes(n)
-}
-
-// The first line of standard input is at the start of the buffer: how long it is, its end left out.
-pub fn read_first_line(buffer: &mut [u8]) -> Got {
-    let got = read_to_line_end(buffer);
-    tell(got, b"standard input");
-    match got {
-        Got::Bytes(n) => {
-            let end = within(n, buffer);
-            Got::Bytes(find(&buffer[..end], 0, b'\n'))
-        }
-        Got::End => Got::End,
-        Got::Failed => Got::Failed,
-    }
 }
 
 // Some bytes of standard input.

@@ -1,9 +1,9 @@
 // The program: runs an image, checks one, or drives the evaluator by hand. It moves bytes between files and proved functions.
-mod bound;
 mod dialog;
 mod file;
-mod once;
 mod say;
+mod single;
+mod source;
 
 use words::word::same;
 
@@ -22,11 +22,11 @@ fn usage() {
 fn command(word: &[u8], count: usize) {
     if count == 3 {
         if same(word, b"run") {
-            once::run();
+            single::run();
             return;
         }
         if same(word, b"check") {
-            once::check();
+            single::check();
             return;
         }
     }

@@ -1,7 +1,7 @@
 // What is written to standard output.
-use crate::bound::within;
 use libc::STDERR_FILENO;
 use libc::STDOUT_FILENO;
+use telling::bound::within;
 use words::Written;
 
 pub fn text(bytes: &[u8]) {

@@ -1,7 +1,7 @@
 -- The live list: a pointer's record from the four columns, and the list by what the memory answered.
 use Prim.Native.Nat.{ℕ, min}
 use mathlib.Core.Path.{_≡_, sym, ap, ap₂, _∙_}
-use mathlib.Core.List.{List, []}
+use mathlib.Core.List.{List}
 use lib.ListN.{length, getD, take}
 use Rattle.words.specs.Ascii.{ascii}
 use Rattle.words.specs.Text.{Text, text, put, puts}

@@ -2,27 +2,24 @@
 use Prim.Native.Nat.{ℕ, _≤_}
 use native.Mathlib.Nat.{min-le-left, min-le-right}
 use native.Mathlib.Omega.{arith}
-use mathlib.Core.Path.{_≡_, refl}
-use mathlib.Core.List.{List, flatten}
+use mathlib.Core.Path.{_≡_}
+use mathlib.Core.List.{List}
 use lib.ListN.{length, take, drop, replicate, length-take, length-replicate}
-use lib.Dec.{ltb, leb, eqb}
+use lib.Dec.{leb, eqb}
 use borrow.Author.Tests.{leb-true}
 use Rattle.value.proofs.Truth.{both-true}
 use Rattle.words.specs.Room.{size}
-use Rattle.words.proofs.Room.{decimal-size, size-append, roomy}
-use Rattle.answers.specs.Lines.{Pieces, ending, okLine, steppedLine, imageRefusedLine}
+use Rattle.words.proofs.Room.{decimal-size, size-append}
+use Rattle.answers.specs.Lines.{Pieces, ending, okLine, steppedLine}
 use Rattle.answers.proofs.Room as Answers
 use Rattle.by_hand.specs.State.{each}
 use Rattle.by_hand.proofs.Room.{either, each-size}
 use Rattle.image.specs.Parse.{Got, took, refused}
 use Rattle.image.specs.Program.{Program}
-use Rattle.image.specs.Image.{Image, image, loaded}
 use Rattle.image.specs.Written.{written}
 use Rattle.image.specs.declared.field.Step.{Step}
 use Rattle.image.specs.declared.field.Step.the-variants as step
 use Rattle.image_writer.specs.Answer.{outcome, buffer}
-use Rattle.loader.specs.Tables.{loadedOf, loadedFrom}
-use Rattle.eval.proofs.Counts.{limited}
 use Rattle.memory.specs.declared.Moved.{Moved}
 use Rattle.memory.specs.declared.Moved.the-variants as moved
 use Rattle.memory.specs.declared.Given.{Given}
@@ -44,10 +41,9 @@ use Rattle.eval.specs.declared.entry.Entered.{Entered}
 use Rattle.eval.specs.declared.entry.Entered.the-variants as entered
 use Rattle.eval.specs.declared.entry.Readout.{Readout}
 use Rattle.eval.specs.declared.entry.Readout.the-variants as readout
-use Rattle.telling.specs.Told.{endLine, ranLine, lastLine, enteredLine, startLine, stepLine, freshLine, givenLine, outcomeLine, readLine, loadedLine, rewrittenLine}
+use Rattle.telling.specs.Told.{endLine, ranLine, lastLine, enteredLine, startLine, stepLine, freshLine, givenLine, outcomeLine, readLine, rewrittenLine}
 use Rattle.telling.specs.Listed.{recordAt, columnsLine, listingLine, roomFor, liveLineOf}
-use Rattle.telling.specs.Runs.{Answer, unreadLine, longest, startAsked, startTags, startBits, freshRun, startAnswered}
-use Rattle.telling.specs.Room.{StartHasRoom, CheckHasRoom}
+use Rattle.telling.specs.Starts.{unreadLine}
 
 -- ---- lines of a few words
 
@@ -90,18 +86,6 @@ outcome-size (done.Refused number) = Answers.refusal-size number
 
 pub unread-size : (w : ℕ) → size (unreadLine w) ≤ 128
 unread-size w = Answers.cannot-read-size _
-
--- an image that was taken has few items of each sort
-loaded-size : (s : List ℕ) → size (loadedLine (loadedFrom s .end) (loadedFrom s)) ≤ 128
-unfolding loadedOf
-loaded-size s = go (image s) refl
-  where
-    go : (g : Got Image) → image s ≡ g → size (loadedLine (loadedOf g .end) (loadedOf g)) ≤ 128
-    go (refused number place) h = Answers.image-refused-size number place
-    go (took i e) h =
-        let few = limited s i e h in
-        Answers.taken-size (i .variables) (length (i .constants)) (length (i .functions)) (length (i .blocks)) (length (flatten (i .blocks)))
-        (omega (arith, few .constants)) (omega (arith, few .functions)) (omega (arith, few .blocks)) (omega (arith, few .instructions))
 
 -- ---- lines of at most 32,768 bytes as HEX
 
@@ -183,20 +167,3 @@ module _ (t : State) (l : List ℕ) (h : length l ≤ 4096) where
 pub live-size : (room : ℕ) (t : State) → size (liveLineOf room t) ≤ 344090
 unfolding liveLineOf
 live-size room t = listed-fits t (roomFor room) (part-count room (replicate 4096 0) (length-replicate {A = ℕ} 4096 0))
-
--- ---- `lir run` and `lir check`
-
-start-line-size : (l s st f b p v : List ℕ) → size (startAnswered l s st f b p v .line) ≤ 128
-unfolding startAnswered
-start-line-size l s st f b p v =
-    either (λ (x : Answer). size (x .line) ≤ 128) (ltb longest (length l)) (λ e. unread-size 0)
-    (λ e. either (λ (x : Answer). size (x .line) ≤ 128) (eqb (startAsked l .bad) 0) (λ g. ran-size (freshRun s (startAsked l) (startTags l) (startBits l) st f b p v .answer)) (λ g. unread-size (startAsked l .word)))
-
-pub start-has-room : StartHasRoom
-start-has-room l s st f b p v out h = roomy (startAnswered l s st f b p v .line) out 128 (start-line-size l s st f b p v) h
-
-pub check-has-room : CheckHasRoom
-check-has-room = record {
-  loaded = λ s out h. roomy (loadedLine (loadedFrom s .end) (loadedFrom s)) out 128 (loaded-size s) h;
-  refused = λ number place out h. roomy (imageRefusedLine number place) out 128 (Answers.image-refused-size number place) h;
-}

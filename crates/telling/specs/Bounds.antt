@@ -1,4 +1,4 @@
--- Parts of lists.
+-- How long a part of a buffer is, so that the code may lend it: an answer or a line fills only the start of its buffer.
 use Prim.Native.Nat.{ℕ, _≤_}
 use mathlib.Core.Path.{_≡_}
 use mathlib.Core.List.{List}

@@ -1,5 +1,4 @@
 pub mod Bounds
 pub mod Told
 pub mod Listed
-pub mod Runs
-pub mod Room
+pub mod Starts

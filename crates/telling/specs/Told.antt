@@ -6,10 +6,7 @@ use lib.Dec.{eqb}
 use Rattle.value.specs.Answer.{pick}
 use Rattle.words.specs.Text.{Text, text, puts}
 use Rattle.words.specs.declared.Written.the-variants.{To}
-use Rattle.answers.specs.Lines.{Pieces, returnedLine, returnedNoneLine, pausedLine, refusedLine, imageRefusedLine, pointerLine, bytesLine, takenLine, okLine, steppedLine, refusalLine, valueLine, noValueLine}
-use Rattle.image.specs.declared.field.Step.{Step}
-use Rattle.image.specs.declared.field.Step.the-variants as step
-use Rattle.loader.specs.declared.load.Loaded.{Loaded}
+use Rattle.answers.specs.Lines.{Pieces, returnedLine, returnedNoneLine, pausedLine, refusedLine, imageRefusedLine, pointerLine, bytesLine, okLine, steppedLine, refusalLine, valueLine, noValueLine}
 use Rattle.memory.specs.declared.Moved.{Moved}
 use Rattle.memory.specs.declared.Moved.the-variants as moved
 use Rattle.memory.specs.declared.Given.{Given}
@@ -88,11 +85,6 @@ readLine (readout.Refused number) bs = refusalLine number
 readLine (readout.NotLoaded number place) bs = imageRefusedLine number place
 
 -- ---- the image
-
--- "`taken variables V constants C functions F blocks B instructions I`, or `image refused NUMBER at PLACE`"
-abbrev pub loadedLine : Step → Loaded → Pieces
-loadedLine (step.Stop number place) l = imageRefusedLine number place
-loadedLine (step.At place) l = takenLine (l .counts .variables) (l .counts .constants) (l .counts .functions) (l .counts .blocks) (l .instructions)
 
 -- "`rewrite ROOM` .. → the image written again by the image writer: `bytes HEX`", the first bytes of the writer's buffer
 abbrev pub rewrittenLine : Rewritten → List ℕ → Pieces

@@ -1,5 +1,6 @@
 // What the evaluator answers, as a line from the start of the buffer.
 use crate::bound::within;
+use answers::line::write_cannot_read;
 use answers::line::write_image_refused;
 use answers::line::write_no_value;
 use answers::line::write_ok;
@@ -11,14 +12,11 @@ use answers::line::write_refused;
 use answers::line::write_returned;
 use answers::line::write_returned_none;
 use answers::line::write_stepped;
-use answers::line::write_taken;
 use answers::line::write_value_line;
 use eval::entry::Entered;
 use eval::entry::Readout;
-use image::field::Step;
 use image_writer::writer::Outcome as Rewritten;
 use instruction::variables::Found;
-use loader::load::Loaded;
 use memory::Given;
 use memory::Moved;
 use memory::Outcome;
@@ -26,7 +24,8 @@ use run::Ran;
 use words::Written;
 ghost use mathlib.Core.Path.{_≡_};
 ghost use Rattle.words.specs.Text.{text};
-ghost use Rattle.telling.specs.Told.{line, endLine, ranLine, lastLine, startLine, stepLine, freshLine, givenLine, outcomeLine, readLine, loadedLine, rewrittenLine};
+ghost use Rattle.telling.specs.Told.{line, endLine, ranLine, lastLine, startLine, stepLine, freshLine, givenLine, outcomeLine, readLine, rewrittenLine};
+ghost use Rattle.telling.specs.Starts.{unreadLine};
 
 fn write_end(out: &mut [u8], v: Found, steps: u64) -> Written
     ensures { λ w. ⌜ text w (now (out .exit)) ≡ line (endLine v steps) (now (out .entry)) ⌝ }
@@ -144,26 +143,6 @@ pub fn write_readout(out: &mut [u8], r: Readout, bytes: &[u8]) -> Written
     }
 }
 
-// `taken variables V constants C functions F blocks B instructions I`
-pub fn write_loaded(out: &mut [u8], l: Loaded) -> Written
-    ensures { λ w. ⌜ text w (now (out .exit)) ≡ line (loadedLine (l .end) l) (now (out .entry)) ⌝ }
-{
-    let end = l.end;
-    let counts = l.counts;
-    match end {
-        Step::Stop(number, place) => write_image_refused(out, Written::To(0), number, place as u64),
-        Step::At(_) => write_taken(
-            out,
-            Written::To(0),
-            counts.variables,
-            counts.constants,
-            counts.functions,
-            counts.blocks,
-            l.instructions as u64,
-        ),
-    }
-}
-
 // `bytes HEX`: the image that the writer wrote at the buffer's start.
 pub fn write_rewritten(out: &mut [u8], o: Rewritten, bytes: &[u8]) -> Written
     ensures { λ w. ⌜ text w (now (out .exit)) ≡ line (rewrittenLine o (now (bytes .entry))) (now (out .entry)) ⌝ }
@@ -181,4 +160,12 @@ pub fn write_rewritten(out: &mut [u8], o: Rewritten, bytes: &[u8]) -> Written
             place as u64,
         ),
     }
+}
+
+// `cannot read: word N`, counted from 1
+pub fn write_unread(out: &mut [u8], word: usize) -> Written
+    ensures { λ r. ⌜ text r (now (out .exit)) ≡ line (unreadLine word) (now (out .entry)) ⌝ }
+{
+    let count = std::num::wrapping_add_u64(word as u64, 1);
+    write_cannot_read(out, Written::To(0), count)
 }

@@ -1,14 +1,14 @@
 // A start from the values that a line holds.
-use crate::bound::least;
 use by_hand::table::word_at;
 use eval::entry::Entered;
 use eval::start::start;
 use instruction::variables::Found;
 use memory::Registers;
+use words::bound::least;
 ghost use mathlib.Core.Path.{_≡_};
 ghost use Rattle.memory.specs.Tables.{tables, state};
 ghost use Rattle.eval.specs.Entry.{entering};
-ghost use Rattle.telling.specs.Runs.{begunOf, budgetOf};
+ghost use Rattle.telling.specs.Starts.{begunOf, budgetOf};
 
 // A budget as 32 bits hold it.
 pub fn budget_of(n: u64) -> u32

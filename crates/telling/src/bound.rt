@@ -1,14 +1,9 @@
 // Bounds of parts of slices.
+use words::bound::least;
 ghost use mathlib.Core.Path.{_≡_};
 ghost use Prim.Native.Nat.{min};
 ghost use lib.ListN.{length};
 ghost use Rattle.telling.specs.Bounds.{Counts};
-
-pub fn least(a: usize, b: usize) -> usize
-    ensures { λ r. ⌜ r ≡ min a b ⌝ }
-{
-    if a < b { a } else { b }
-}
 
 // So many of the slice's bytes, or all of them.
 pub fn within(n: usize, s: &[u8]) -> usize

@@ -4,7 +4,7 @@ use native.Mathlib.Nat.{pow-suc, div-lt-iff-lt-mul, le-trans}
 use native.Mathlib.Numerals.{sub-one, add-one}
 use native.Mathlib.Omega.{arith}
 use mathlib.Core.Bool.{and-false}
-use mathlib.Core.Path.{_≡_, refl, sym, ap, _∙_}
+use mathlib.Core.Path.{_≡_, refl, sym, ap, subst, _∙_}
 use mathlib.Core.List.{List, [], _∷_}
 use lib.ListN.{length, getD, set, drop, length-append, drop-of-length-le}
 use lib.Seq.{sets, drop-cons}
@@ -37,6 +37,22 @@ held-spare (suc f) n h g = omega arith
 pub held-less : (spare n : ℕ) → 0 < spare → Held spare n → Held (spare - 1) (n / 10)
 held-less zero n p h = absurd (omega arith)
 held-less (suc f) n p h = rw sub-one (div-lt-iff-lt-mul {k = 10} (omega arith) .1 (rw (← pow-suc 10 (suc f)) h))
+
+-- one digit more, of twenty at most
+pub record Next (count n : ℕ) : Type 0 where
+  pub below : count < 20
+  pub one : placesWithin (20 - count) n ≡ suc (placesWithin (20 - (count + 1)) (n / 10))
+  pub held : Held (20 - (count + 1)) (n / 10)
+
+pub next-place : (count n : ℕ) → Held (20 - count) n → 10 ≤ n → Next count n
+next-place count n h g =
+    let s = held-spare (20 - count) n h g in
+    let e : 20 - count - 1 ≡ 20 - (count + 1) = omega arith in
+    record {
+      below = omega arith;
+      one = more-places (20 - count) n s g ∙ ap (λ (k : ℕ). suc (placesWithin k (n / 10))) e;
+      held = subst (λ (k : ℕ). Held k (n / 10)) e (held-less (20 - count) n s h);
+    }
 
 -- ---- the digits
 

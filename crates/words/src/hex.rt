@@ -50,7 +50,7 @@ fn all_hex(word: &[u8]) -> bool
 }
 
 // Whether a word is HEX.
-pub fn is_hex(word: &[u8]) -> bool
+fn is_hex(word: &[u8]) -> bool
     ensures { λ r. ⌜ r ≡ isHex (now (word .entry)) ⌝ }
 {
     if word.len() == 1 {

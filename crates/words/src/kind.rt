@@ -153,7 +153,7 @@ fn size(b: u8) -> usize
 }
 
 // Whether a word is the name of the kind with this tag.
-pub fn is_kind(word: &[u8], tag: u64) -> bool
+fn is_kind(word: &[u8], tag: u64) -> bool
     ensures { λ r. ⌜ r ≡ sameBytes (now (word .entry)) (nameOf tag) ⌝ }
 {
     let table = names();

@@ -1,4 +1,5 @@
-// The words of the program's lines: readers and writers of numbers, kinds, HEX and answers, on lent slices.
+// The words of the program's lines: readers and writers of numbers, kinds, HEX and values, on lent slices.
+pub mod bound;
 pub mod hex;
 pub mod kind;
 pub mod number;

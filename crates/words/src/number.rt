@@ -54,15 +54,13 @@ pub fn read_number(word: &[u8]) -> Read
 }
 
 // How many digits a number takes.
-pub fn count_digits(n: u64) -> usize
+fn count_digits(n: u64) -> usize
     ensures { λ r. ⌜ r ≡ places n ⌝ }
 {
     let mut count: usize = 1;
     let mut left = n;
-    let mut spare: usize = 19;
     while 10 <= left {
         left = left / 10;
-        spare -= 1;
         count += 1;
     }
     count

@@ -2,6 +2,7 @@
 use crate::Pair;
 use crate::Read;
 use crate::Values;
+use crate::bound::least;
 use crate::word::bits_at;
 use crate::word::count_words;
 use crate::word::kind_at;
@@ -13,7 +14,7 @@ ghost use Rattle.words.specs.Words.{words};
 ghost use Rattle.words.specs.Pairs.{pairSaid, valuesFrom, Stored};
 
 // What the word at `k` and the one after it say.
-pub fn pair_at(line: &[u8], k: usize) -> Pair
+fn pair_at(line: &[u8], k: usize) -> Pair
     ensures { λ r. ⌜ r ≡ pairSaid (getD (words (now (line .entry))) k []) (getD (words (now (line .entry))) (k + 1) []) ⌝ }
 {
     match kind_at(line, k) {
@@ -23,12 +24,6 @@ pub fn pair_at(line: &[u8], k: usize) -> Pair
         },
         Read::Bad => Pair::BadKind,
     }
-}
-
-fn least(a: usize, b: usize) -> usize
-    ensures { λ r. ⌜ r ≡ min a b ⌝ }
-{
-    if a < b { a } else { b }
 }
 
 // Reads the values from the word at `first` to the line's end, one at least, into the two tables.

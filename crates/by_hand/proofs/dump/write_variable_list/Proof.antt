@@ -6,7 +6,6 @@ use lib.ListN.{length}
 use Rattle.words.specs.Text.{text, puts}
 use Rattle.by_hand.specs.State.{each, variableAt}
 use Rattle.by_hand.proofs.Showing.{more-each, no-more-each}
-use borrow.Author.Needs.{needs}
 use Rattle.by_hand.proofs.dump.write_variable_list.Statement.{statement}
 use Rattle.by_hand.proofs.dump.write_variable_list.Tie as tie
 

@@ -1,7 +1,6 @@
 -- `poke::poke_register` meets its contract, register by register.
 use mathlib.Core.Path.{refl}
 use Rattle.by_hand.proofs.Changing.{counter-put, next-put, running-put}
-use borrow.Author.Needs.{needs}
 use Rattle.by_hand.proofs.poke.poke_register.Statement.{statement}
 use Rattle.by_hand.proofs.poke.poke_register.Tie as tie
 

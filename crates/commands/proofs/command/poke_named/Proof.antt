@@ -10,15 +10,18 @@ slice-aggregate-name-at c = search needs
 name-at-requires : tie.Need-name-at-requires
 name-at-requires c κs = search needs
 
+sub-last : tie.Need-sub-last
+sub-last c = search needs
+
 returns : tie.Need-returns
 returns c = no-poke _ _ (c .before .name-at .ensures) (c .if1 .taken)
 
-add-t8 : tie.Need-add-t8
-add-t8 c = search needs
+add-value : tie.Need-add-value
+add-value c = search needs
 
 returns-2 : tie.Need-returns-2
 returns-2 c = a-poke _ _ (c .before .name-at .ensures) (c .if1 .left)
 
 pub poke-named-spec : {M : Type 1} → statement M
 poke-named-spec =
-    tie.close (tie.spec slice-aggregate-name-at name-at-requires returns add-t8 returns-2)
+    tie.close (tie.spec slice-aggregate-name-at name-at-requires sub-last returns add-value returns-2)

@@ -1,7 +1,6 @@
 -- `command::rows` meets its contract: the rows are computed.
 use mathlib.Core.Path.{refl}
 use Rattle.commands.specs.Commands.{rows, hostRows, pokeRows}
-use borrow.Author.Needs.{needs}
 use Rattle.commands.proofs.command.rows.Statement.{statement}
 use Rattle.commands.proofs.command.rows.Tie as tie
 

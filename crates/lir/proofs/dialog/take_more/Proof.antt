@@ -6,8 +6,8 @@ use Rattle.lir.proofs.dialog.take_more.Tie as tie
 advance-requires : tie.Need-advance-requires
 advance-requires c κs = search needs
 
-with-held-requires : tie.Need-with-held-requires
-with-held-requires c κs = search needs
+with-source-requires : tie.Need-with-source-requires
+with-source-requires c κs = search needs
 
 respond-requires : tie.Need-respond-requires
 respond-requires c κs = search needs
@@ -50,7 +50,7 @@ take-more-spec =
     tie.close
     (tie.spec
     advance-requires
-    with-held-requires
+    with-source-requires
     respond-requires
     same-length
     same-length-2
