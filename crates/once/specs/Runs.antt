@@ -64,7 +64,7 @@ answer l s f b p v = record { line = l; store = s; frames = f; bounds = b; point
 abbrev pub fromRun : Running → Answer
 fromRun r = answer (ranLine (r .answer)) (r .store) (r .frames) (r .bounds) (r .pointers) (r .variables)
 
--- what the start line asks, with no byte of HEX
+-- what the start line asks. It names no frame and has no HEX, so the depth (0) and the room for HEX (1) decide nothing
 abbrev pub startAsked : (line : List ℕ) → Asked
 startAsked l = rowAsked startLine 0 1 valueRoom (good 0 0) (words l)
 
