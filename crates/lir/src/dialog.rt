@@ -23,7 +23,7 @@ ghost use Prim.Native.Nat.{_<_};
 // More bytes than a line can say.
 const HEX_ROOM: usize = 131072;
 
-// The longest answer is a dump of full tables, of which 64 frames with 512 lengths each are 692,224 bytes and 4,096 pointers are 348,183.
+// No answer is longer: of a dump of full tables 64 frames with 512 lengths each are at most 692,224 bytes, and 4,096 pointers 348,183.
 const ANSWER_ROOM: usize = 1114488;
 
 // The machine's registers, how long the image is, and the line that is being read.
