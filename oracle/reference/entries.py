@@ -1,14 +1,14 @@
 """Writes entries.txt: sequences of entries that the Rust cannot show, answered by the reference machine alone (see oracle/README.md).
 
 P11, pauses and goings-on, a state moved to another image, refused images, starts of a running machine, Chars that are no scalar values,
-live lists and written images with room and without.
+bits that are no value's, live lists and written images with room and without.
 """
 
 import os
 import random
 
 import image
-from image import ASSIGN, CONSTANT_ADDRESS, COPY, DROP, OFFSET, POINTER, READ, RETURN, WRITE
+from image import ASSIGN, CHAR, CONSTANT_ADDRESS, COPY, DROP, OFFSET, POINTER, READ, RETURN, WIDTHS, WRITE
 from image_cases import P1
 from machine import SHORT_TABLE, U8, U16, Machine, Refusal, prepared
 from maker import Maker
@@ -124,6 +124,14 @@ def named():
     yield ["i", "x0", "s0=14:0", "g0", "r0=1", "k0", "a1", "w0=01", "w0=0102", "w1=01"]
 
 
+def widest():
+    """The largest bits of each kind, and the next ones where a number can say them: in an image, and as an argument."""
+    for tag in range(1, len(WIDTHS)):
+        most = 0x10FFFF if tag == CHAR else 2 ** WIDTHS[tag] - 1
+        for bits in sorted({most, min(most + 1, 2**64 - 1)}):
+            yield ["i" + simple([(RETURN, (tag, bits))], 0), "s0=14:0", "g1", "i" + P1.hex(), f"s0=14:0,{tag}:{bits}", "g1"]
+
+
 def moved():
     """A constant's pointer, used with an image that has fewer constants."""
     first = "i" + simple([(CONSTANT_ADDRESS, TO, 1), BACK], 0, [b"a", b"bc"])
@@ -136,7 +144,7 @@ def moved():
 
 
 def main():
-    records = [Play().record(words) for words in [*numbers(), *named(), *moved(), *sequences(11, 400)]]
+    records = [Play().record(words) for words in [*numbers(), *named(), *widest(), *moved(), *sequences(11, 400)]]
     records = [record for record in records if len(record) < 4000]
     with open(os.path.join(os.path.dirname(os.path.abspath(__file__)), "entries.txt"), "w", encoding="ascii") as out:
         out.writelines(records)

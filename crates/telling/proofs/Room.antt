@@ -34,6 +34,7 @@ use Rattle.memory.specs.Tables.{State, Columns, Listing, listing, ready, roomyO
 use Rattle.instruction.specs.declared.variables.Found.{Found}
 use Rattle.run.specs.declared.Ran.{Ran}
 use Rattle.run.specs.declared.Ran.the-variants as ran
+use Rattle.loader.specs.Tables.{loadedFrom}
 use Rattle.eval.specs.Host.{hostListed}
 use Rattle.eval.specs.Loaded.{itemsOf}
 use Rattle.eval.specs.Entry.{Reading, readLoaded, readAfter, readEntered}
