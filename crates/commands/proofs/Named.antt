@@ -1,7 +1,7 @@
 -- Each command's name is found as its number, by computing.
 use mathlib.Core.Path.{_≡_, refl}
 use mathlib.Core.List.{[], _∷_, map}
-use Rattle.value.specs.Value.{sameBytes}
+use Rattle.value.specs.Bytes.{sameBytes}
 use Rattle.words.specs.Ascii.{ascii}
 use Rattle.words.specs.Words.{words, parts}
 use Rattle.commands.specs.Parts.{good}

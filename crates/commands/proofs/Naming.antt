@@ -9,7 +9,7 @@ use lib.ListN.{length, getD, drop, List·getD-eq-default, drop-of-length-le}
 use lib.Seq.{drop-cons}
 use borrow.Author.Tests.{lt-ltb, le-ltb}
 use Rattle.value.specs.Answer.{pick}
-use Rattle.value.specs.Value.{sameBytes}
+use Rattle.value.specs.Bytes.{sameBytes}
 use Rattle.words.specs.Words.{words}
 use Rattle.commands.specs.Parts.{good, bad, partAfter, endAfter, bytesAfter, tagsAfter, bitsAfter}
 use Rattle.commands.specs.Commands.{commandNames, pokeNames, placeOf, pokeRead, nameRead, hostRows, pokeRows, rows, sortOf, part₁, part₂, part₃, part₄, spotsAsked, Reads, lineReads}

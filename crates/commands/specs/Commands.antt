@@ -5,7 +5,7 @@ use mathlib.Core.List.{List, [], _∷_, _++_}
 use lib.ListN.{length, getD}
 use lib.Dec.{ltb}
 use Rattle.value.specs.Answer.{pick}
-use Rattle.value.specs.Value.{sameBytes}
+use Rattle.value.specs.Bytes.{sameBytes}
 use Rattle.words.specs.Ascii.{ascii}
 use Rattle.words.specs.Words.{words}
 use Rattle.commands.specs.Command as Command

@@ -6,7 +6,7 @@ use lib.ListN.{length, getD, drop}
 use lib.Seq.{sets}
 use lib.Dec.{leb, eqb}
 use Rattle.value.specs.Answer.{pick}
-use Rattle.value.specs.Value.{sameBytes}
+use Rattle.value.specs.Bytes.{sameBytes}
 use Rattle.words.specs.Ascii.{ascii}
 use Rattle.words.specs.Number.{upTo}
 use Rattle.words.specs.Hex.{hexAnswer, hexBuffer}

@@ -1,5 +1,6 @@
 pub mod Refusal
 pub mod Answer
+pub mod Bytes
 pub mod Divide
 pub mod Nearest
 pub mod Value

@@ -368,10 +368,3 @@ bytesOf v = leBytes (size (v .kind)) (v .bits)
 -- "31 Bool read from a byte above 1"
 unfoldable pub fromBytes : IrType → List ℕ → Answer Value
 fromBytes t bs = need (not (same (kindOf t) bool && ltb 1 (leNumber bs))) notBool (ok (value (kindOf t) (leNumber bs)))
-
--- the same bytes
-unfoldable pub sameBytes : List ℕ → List ℕ → Bool
-sameBytes [] [] = true
-sameBytes [] (y ∷ ys) = false
-sameBytes (x ∷ xs) [] = false
-sameBytes (x ∷ xs) (y ∷ ys) = eqb x y && sameBytes xs ys

@@ -9,9 +9,10 @@ use mathlib.Core.List.{List, [], _∷_}
 use lib.ListN.{length, getD, take, drop, List·getD-eq-default, drop-of-length-le}
 use lib.Seq.{drop-cons}
 use lib.Dec.{leb, eqb, leb·suc-suc}
-use borrow.Author.Tests.{leb-true, eqb-true, lt-ltb, le-ltb, ne-eqb}
+use borrow.Author.Tests.{leb-true, eqb-true, le-leb, lt-leb, le-ltb, ne-eqb}
 use Rattle.value.specs.Answer.{pick}
-use Rattle.value.specs.Value.{Kind, bool, u8, u16, u32, u64, i8, i16, i32, i64, f32, f64, char, asn, pointer, tag, size, sameBytes}
+use Rattle.value.specs.Value.{Kind, bool, u8, u16, u32, u64, i8, i16, i32, i64, f32, f64, char, asn, pointer, tag, size}
+use Rattle.value.specs.Bytes.{sameBytes}
 use Rattle.value.proofs.Truth.{both-true}
 use Rattle.words.specs.Kinds.{name, names, nameOf, kindFrom, kindRead, limitOf, limits, fits, rows, rowOf}
 use Rattle.words.specs.declared.Read.{Read}
@@ -48,11 +49,11 @@ row-at t h =
     record { short = leb-true _ 7 (s .0); is = same-is _ _ (s .1) }
 
 row-of : (t : ℕ) → (rowOf t < 15) × (nameOf (rowOf t) ≡ nameOf t)
-unfolding nameOf names
+unfolding nameOf names tag
 row-of t =
     elim (decLe 15 t) [
-      | yes l ↦ rw (le-ltb t 15 l) (omega arith, sym (List·getD-eq-default names [] {n = t} (omega (arith, names-count))))
-      | no l ↦ rw (lt-ltb t 15 (omega arith)) (omega arith, refl)
+      | yes l ↦ rw (lt-leb t 14 (omega arith)) (omega arith, sym (List·getD-eq-default names [] {n = t} (omega (arith, names-count))))
+      | no l ↦ rw (le-leb t 14 (omega arith)) (omega arith, refl)
     ]
 
 -- the row of a tag, as the code has it

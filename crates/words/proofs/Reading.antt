@@ -12,7 +12,7 @@ use lib.Seq.{sets, getD-drop, drop-drop}
 use lib.Dec.{leb}
 use borrow.Author.Tests.{le-leb, lt-leb, eq-eqb, ne-eqb}
 use Rattle.value.specs.Answer.{pick}
-use Rattle.value.specs.Value.{sameBytes}
+use Rattle.value.specs.Bytes.{sameBytes}
 use Rattle.words.specs.Number.{number}
 use Rattle.words.specs.Words.{words, parts}
 use Rattle.words.specs.Kinds.{name, names, kindFrom, kindRead, fits, bitsRead}

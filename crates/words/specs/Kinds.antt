@@ -4,9 +4,10 @@ use Prim.Native.Nat.{ℕ, suc, _-_, _^_}
 use mathlib.Core.Bool.{Bool}
 use mathlib.Core.List.{List, [], _∷_, _++_, map}
 use lib.ListN.{length, getD, drop, replicate}
-use lib.Dec.{ltb}
+use lib.Dec.{ltb, leb}
 use Rattle.value.specs.Answer.{pick}
-use Rattle.value.specs.Value.{Kind, bool, u8, u16, u32, u64, i8, i16, i32, i64, f32, f64, char, asn, pointer, width, sameBytes}
+use Rattle.value.specs.Value.{Kind, bool, u8, u16, u32, u64, i8, i16, i32, i64, f32, f64, char, asn, pointer, tag, width}
+use Rattle.value.specs.Bytes.{sameBytes}
 use Rattle.value.specs.Value.{same as sameKind}
 use Rattle.value.specs.Tags.{kinds}
 use Rattle.words.specs.Ascii.{ascii}
@@ -79,4 +80,4 @@ rows (n ∷ ns) = length n ∷ n ++ replicate (7 - length n) 0 ++ rows ns
 
 -- the row of a tag: the first, which is empty, where there is no such kind
 abbrev pub rowOf : ℕ → ℕ
-rowOf t = pick (ltb t 15) t 0
+rowOf t = pick (leb t (tag pointer)) t 0

@@ -3,12 +3,13 @@ use crate::Read;
 use crate::Written;
 use crate::text::write_bytes;
 use crate::word::same;
+use value::IrType;
 ghost use mathlib.Core.Path.{_≡_};
 ghost use Rattle.words.specs.Text.{text, put};
 ghost use Rattle.words.specs.Kinds.{names as Kinds·names};
 ghost use Rattle.words.specs.Kinds.{rows, rowOf, nameOf, kindRead};
 ghost use Rattle.words.specs.Kinds.{fits as Kinds·fits};
-ghost use Rattle.value.specs.Value.{sameBytes};
+ghost use Rattle.value.specs.Bytes.{sameBytes};
 
 // The names in the order of their tags, 1 to 14: eight bytes each, the first its length.
 const NAMES: [u8; 120] = [
@@ -143,7 +144,11 @@ fn names() -> [u8; 120]
 fn row(tag: u64) -> usize
     ensures { λ r. ⌜ r ≡ rowOf tag ⌝ }
 {
-    if tag < 15 { tag as usize } else { 0 }
+    if tag <= IrType::POINTER_TAG {
+        tag as usize
+    } else {
+        0
+    }
 }
 
 fn size(b: u8) -> usize
@@ -167,8 +172,8 @@ fn is_kind(word: &[u8], tag: u64) -> bool
 pub fn read_kind(word: &[u8]) -> Read
     ensures { λ r. ⌜ r ≡ kindRead (now (word .entry)) ⌝ }
 {
-    let mut tag: u64 = 1;
-    while tag < 15 {
+    let mut tag = IrType::BOOL_TAG;
+    while tag <= IrType::POINTER_TAG {
         if is_kind(word, tag) {
             return Read::Number(tag);
         }
@@ -214,7 +219,7 @@ pub fn fits(tag: u64, bits: u64) -> bool
     if tag == 0 {
         return false;
     }
-    if 14 < tag {
+    if IrType::POINTER_TAG < tag {
         return false;
     }
     let place = tag as usize;

@@ -14,7 +14,7 @@ ghost use Rattle.words.specs.Number.{upTo};
 ghost use Rattle.words.specs.Hex.{hexAnswer, hexBuffer};
 ghost use Rattle.words.specs.Kinds.{kindRead, bitsRead};
 ghost use Rattle.words.specs.Words.{until, words, wordAt, Stands};
-ghost use Rattle.value.specs.Value.{sameBytes};
+ghost use Rattle.value.specs.Bytes.{sameBytes};
 
 // The first place from `from` on at which the byte stands, or the end.
 pub fn find(s: &[u8], from: usize, b: u8) -> usize

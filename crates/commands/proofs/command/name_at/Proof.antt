@@ -11,7 +11,7 @@ use Rattle.commands.proofs.Naming.{is-there, is-not, is-nowhere}
 use borrow.Author.Needs.{needs}
 use Rattle.commands.proofs.command.name_at.Statement.{statement}
 use Rattle.commands.proofs.command.name_at.Tie as tie
-use Rattle.value.specs.Value.{sameBytes}
+use Rattle.value.specs.Bytes.{sameBytes}
 
 abbrev Inv-loop : tie.InvT-loop
 Inv-loop line k names from to count i₀ i = (i + placeOf (getD (words line) k []) (drop i (words names)) ≡ placeOf (getD (words line) k []) (words names)) × (count ≡ length (words names)) × (i ≤ count)

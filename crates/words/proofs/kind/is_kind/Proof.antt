@@ -7,7 +7,7 @@ use Rattle.words.proofs.Names.{rows-count, row-small, name-short, name-
 use borrow.Author.Needs.{needs}
 use Rattle.words.proofs.kind.is_kind.Statement.{statement}
 use Rattle.words.proofs.kind.is_kind.Tie as tie
-use Rattle.value.specs.Value.{sameBytes}
+use Rattle.value.specs.Bytes.{sameBytes}
 
 names-requires : tie.Need-names-requires
 names-requires c κs = search needs

@@ -23,7 +23,7 @@ is-kind-requires : tie.Need-is-kind-requires Inv-loop μ-loop
 is-kind-requires c κs = search needs
 
 returns : tie.Need-returns Inv-loop μ-loop
-returns c = named (c .before .before .before .before .before .args .word .now) (c .before .before .before .loop .tag) (c .before .before .loop-test .taken) (sym (c .before .is-kind .ensures) ∙ c .if1 .taken) (c .before .before .before .loop .inv .0)
+returns c = named (c .before .before .before .before .before .args .word .now) (c .before .before .before .loop .tag) (omega (arith, c .before .before .loop-test .taken)) (sym (c .before .is-kind .ensures) ∙ c .if1 .taken) (c .before .before .before .loop .inv .0)
 
 add-tag : tie.Need-add-tag Inv-loop μ-loop
 add-tag c = omega arith
@@ -32,10 +32,10 @@ loop-less : tie.Need-loop-less Inv-loop μ-loop
 loop-less c = omega arith
 
 loop-again : tie.Need-loop-again Inv-loop μ-loop
-loop-again c = (not-named (c .before .before .before .before .before .args .word .now) (c .before .before .before .loop .tag) (c .before .before .loop-test .taken) (sym (c .before .is-kind .ensures) ∙ c .if1 .left) (c .before .before .before .loop .inv .0), omega arith)
+loop-again c = (not-named (c .before .before .before .before .before .args .word .now) (c .before .before .before .loop .tag) (omega (arith, c .before .before .loop-test .taken)) (sym (c .before .is-kind .ensures) ∙ c .if1 .left) (c .before .before .before .loop .inv .0), omega arith)
 
 returns-2 : tie.Need-returns-2 Inv-loop μ-loop
-returns-2 c = none-named (c .before .before .before .args .word .now) (c .before .loop .tag) (c .loop-test .left) (c .before .loop .inv .0)
+returns-2 c = none-named (c .before .before .before .args .word .now) (c .before .loop .tag) (omega (arith, c .loop-test .left)) (c .before .loop .inv .0)
 
 pub read-kind-spec : {M : Type 1} → statement M
 read-kind-spec =

@@ -5,7 +5,7 @@ use mathlib.Core.List.{List}
 use borrow.Author.Needs.{needs}
 use Rattle.words.proofs.word.is_word.Statement.{statement}
 use Rattle.words.proofs.word.is_word.Tie as tie
-use Rattle.value.specs.Value.{sameBytes}
+use Rattle.value.specs.Bytes.{sameBytes}
 
 word-requires : tie.Need-word-requires
 word-requires c κs = search needs

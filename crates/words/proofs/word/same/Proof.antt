@@ -6,7 +6,7 @@ use lib.ListN.{length, drop}
 use Rattle.words.proofs.Parting.{other-length, other-byte, same-byte, all-same}
 use Rattle.words.proofs.word.same.Statement.{statement}
 use Rattle.words.proofs.word.same.Tie as tie
-use Rattle.value.specs.Value.{sameBytes}
+use Rattle.value.specs.Bytes.{sameBytes}
 
 abbrev Inv-loop : tie.InvT-loop
 Inv-loop a b i₀ i = (sameBytes (drop i a) (drop i b) ≡ sameBytes a b) × (i ≤ length a)
