@@ -26,6 +26,22 @@ enum {
     LIR_VARIABLES = 512     // 256 records: tag and bits, 0 and 0 for unset
 };
 
+// What the words must be. lir_fresh asks for the lengths alone. Every other call that takes a machine looks at its image first, if it
+// takes one, and is refused with 10 unless each table has exactly its length, the words keep these rules, and the state that they show is
+// sound; no more is asked.
+//   registers   running is 0, for idle, or 1
+//   frames      the last word is 0 in record 0, and in no record less than in the one before, up to record number `depth`, whose last
+//               word is the number of all live allocations
+//   bounds      word 0 is 0, and no word is less than the one before, up to the word after the last live allocation's, which is at most 32,768
+//   pointers    kind is 0 or 1; where it is 1, index is the constant's number, and id, allocation and offset are 0
+//   variables   tag and bits are 0 and 0, or a kind's tag and bits of that kind. 1 is Bool, 2 U8, 3 U16, 4 U32, 5 U64, 6 I8, 7 I16, 8 I32,
+//               9 I64, 10 F32, 11 F64, 12 Char, 13 Asn of 32 bits, 14 Pointer of 64. A Bool's bits are 0 or 1, a Char's a scalar value,
+//               and any other's are below 2 to the power of its width
+// The store holds any bytes. What lies above the depth, the live allocations and the pointers given out is free and means nothing.
+// A state is sound if its depth is 1 to 64, and 1 where it is idle; frame 0 has id 0, ids rise up the stack and lie below the counter, and
+// that is at most 4,294,967,295; live allocations are at most 512 and have at most 32,768 bytes, pointers are at most 4,096; next and return
+// places are at most 4,096 and return variables below 256; and stored Chars are scalar values.
+
 // The words of an answer.
 enum {
     LIR_ENDED = 0,          // 1 after the last Return

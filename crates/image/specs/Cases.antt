@@ -6,8 +6,10 @@ use mathlib.Core.Option.{none, some}
 use mathlib.Core.Path.{_≡_, refl}
 use lib.ListN.{length, take, replicate}
 use lib.Dec.{eqb}
+use Rattle.value.specs.Cases.{Case, allHold}
 use Rattle.value.specs.Refusal.{bytesRunOut, malformed, unknown, overLimit, beyondCount, leftOver}
-use Rattle.value.specs.Value.{Kind, value, tag, isScalar, sameBytes}
+use Rattle.value.specs.Value.{Kind, value, tag, isScalar}
+use Rattle.value.specs.Bytes.{sameBytes}
 use Rattle.value.specs.Tags.{named, kindAt, typeOfKind, typed, holds, intCmpAt}
 use Rattle.image.specs.Parse.{Got, took, refused, andThen, many, within}
 use Rattle.image.specs.Number.{groups, number, bytesOf, bytesFrom}
@@ -48,10 +50,10 @@ wholly (took P end) s = eqb end (length s) && sameBytes (written P) s
 wholly (refused n place) s = false
 
 -- "P1 whole image"; "Writing an accepted program gives its image's bytes again."
-abbrev pub p1Whole : Bool
-p1Whole = wholly (loaded p1Image) p1Image
+abbrev pub p1Whole : Case
+p1Whole = record { number = 1; holds = wholly (loaded p1Image) p1Image }
 
-pub p1-whole : p1Whole ≡ true
+pub p1-whole : p1Whole .holds ≡ true
 unfolding wholly sameBytes
 p1-whole = rw (p1-loads, wholly, p1-written)
 
@@ -134,12 +136,17 @@ unfoldable pub numberIs : Got ℕ → (v end : ℕ) → Bool
 numberIs (took w next) v end = eqb w v && eqb next end
 numberIs (refused m p) v end = false
 
--- "P11 300 is AC 02; 80 00 is refused with 2.": read to the second byte's end, and written
-abbrev pub p11 : Bool
-p11 =
-    numberIs (number (0xac ∷ 0x02 ∷ []) 0) 300 2
-    && (sameBytes (bytesOf 300) (0xac ∷ 0x02 ∷ []) && refusedAs (number (0x80 ∷ 0x00 ∷ []) 0) malformed 0)
+abbrev pub eleventh : Bool → Case
+eleventh b = record { number = 11; holds = b }
 
-pub p11-holds : p11 ≡ true
-unfolding numberIs refusedAs sameBytes number groups bytesOf bytesFrom
+-- "P11 300 is AC 02; 80 00 is refused with 2.": read to the second byte's end, and written
+abbrev pub p11 : List Case
+p11 =
+    eleventh (numberIs (number (0xac ∷ 0x02 ∷ []) 0) 300 2)
+    ∷ eleventh (sameBytes (bytesOf 300) (0xac ∷ 0x02 ∷ []))
+    ∷ eleventh (refusedAs (number (0x80 ∷ 0x00 ∷ []) 0) malformed 0)
+    ∷ []
+
+pub p11-holds : allHold p11 ≡ true
+unfolding allHold numberIs refusedAs sameBytes number groups bytesOf bytesFrom
 p11-holds = refl

@@ -29,6 +29,21 @@ sum-tab (suc n) f g h e =
     ap sum (map-append g (tab n f) (f n ∷ [])) ∙ sum-append (map g (tab n f)) (map g (f n ∷ [])) in
     omega arith
 
+-- no more is needed than that the first allocations begin at 0 and never fall
+pub count-words : (t : Tables) → getD (t .frames) 3 0 ≡ 0
+    → ((i : ℕ) → i < t .registers .depth → getD (t .frames) (i * 4 + 3) 0 ≤ getD (t .frames) (i * 4 + 7) 0)
+    → liveCount (view t .frames) ≡ live t
+unfolding liveCount view allocationsIn
+count-words t b up =
+    let r = sum-tab (t .registers .depth) (frameIn (t .frames) (t .bounds) (t .store)) (λ (f : Frame). length (f .allocations))
+    (λ i. getD (t .frames) (i * 4 + 3) 0)
+    (λ i h. let l = length-tab (getD (t .frames) (i * 4 + 7) 0 - getD (t .frames) (i * 4 + 3) 0)
+    (λ j. bytesOf (t .bounds) (t .store) (getD (t .frames) (i * 4 + 3) 0 + j)) in
+    let f = up i h in
+    let q = ap (λ k. getD (t .frames) k 0) (next-first i) in
+    omega arith) in
+    omega arith
+
 module _ (t : Tables) (so : Sound t) where
   pub length-allocations : (lo hi : ℕ) → length (allocationsIn (t .bounds) (t .store) lo hi) ≡ hi - lo
   unfolding allocationsIn
@@ -43,16 +58,7 @@ module _ (t : Tables) (so : Sound t) where
       part-length (t .store) (bound t k) (bound t (k + 1) - bound t k) (omega arith)
 
   pub count-live : liveCount (view t .frames) ≡ live t
-  unfolding liveCount view
-  count-live =
-      let b = so .bottom in
-      let r = sum-tab (t .registers .depth) (frameIn (t .frames) (t .bounds) (t .store)) (λ (f : Frame). length (f .allocations))
-      (λ i. getD (t .frames) (i * 4 + 3) 0)
-      (λ i h. let l = length-allocations (getD (t .frames) (i * 4 + 3) 0) (getD (t .frames) (i * 4 + 7) 0) in
-      let f = so .each i h .first in
-      let q = ap (λ k. getD (t .frames) k 0) (next-first i) in
-      omega arith) in
-      omega arith
+  count-live = count-words t (so .bottom) (λ i h. so .each i h .first)
 
   -- the bytes of allocations lo to below hi
   bytes-between : (lo hi : ℕ) → lo ≤ hi → hi ≤ live t

@@ -1,5 +1,5 @@
 -- `every` as a loop meets it, one number after another, and as facts about each number.
-use mathlib.Core.Path.{_≡_, refl, ap, _∙_}
+use mathlib.Core.Path.{_≡_, refl, ap, _∙_, sym}
 use mathlib.Core.Bool.{Bool, true, false, _&&_, and-false}
 use Prim.Native.Nat.{ℕ, zero, suc, _+_, _<_, _≤_}
 use native.Mathlib.Numerals.{add-one}
@@ -13,6 +13,12 @@ use Rattle.value.proofs.Truth.{both-true}
 pub by-test : {P : Type 0} (b : Bool) → (b ≡ true → P) → (b ≡ false → P) → P
 by-test true f g = f refl
 by-test false f g = g refl
+
+-- two tests that hold together are one
+pub same-truth : (a b : Bool) → (a ≡ true → b ≡ true) → (b ≡ true → a ≡ true) → a ≡ b
+same-truth true b f g = sym (f refl)
+same-truth false true f g = g refl
+same-truth false false f g = refl
 
 pub every-none : (f : ℕ → Bool) → every 0 f ≡ true
 unfolding every

@@ -112,14 +112,14 @@ value-back (some v) = stored-value (v .kind) (v .bits)
 
 -- ---- ids that rise, and good backs, frame by frame
 
-rising-at : (fs : List Frame) (c : ℕ) → rising fs c ≡ true → (i : ℕ) → suc i < length fs → frameAt fs i .id < frameAt fs (suc i) .id
+pub rising-at : (fs : List Frame) (c : ℕ) → rising fs c ≡ true → (i : ℕ) → suc i < length fs → frameAt fs i .id < frameAt fs (suc i) .id
 unfolding rising
 rising-at [] c e i h = absurd (not-suc-le-zero h)
 rising-at (f ∷ []) c e i h = absurd (not-suc-le-zero (le-of-suc-le-suc h))
 rising-at (f ∷ g ∷ fs) c e zero h = ltb-true _ _ (both-true (ltb (f .id) (g .id)) (rising (g ∷ fs) c) e .0)
 rising-at (f ∷ g ∷ fs) c e (suc i) h = rising-at (g ∷ fs) c (both-true (ltb (f .id) (g .id)) (rising (g ∷ fs) c) e .1) i (le-of-suc-le-suc h)
 
-rising-last : (fs : List Frame) (c : ℕ) → rising fs c ≡ true → (i : ℕ) → suc i ≡ length fs → frameAt fs i .id < c
+pub rising-last : (fs : List Frame) (c : ℕ) → rising fs c ≡ true → (i : ℕ) → suc i ≡ length fs → frameAt fs i .id < c
 unfolding rising
 rising-last [] c e i h = absurd (omega arith)
 rising-last (f ∷ []) c e zero h = ltb-true _ _ e
@@ -127,7 +127,7 @@ rising-last (f ∷ []) c e (suc i) h = absurd (omega arith)
 rising-last (f ∷ g ∷ fs) c e zero h = absurd (omega arith)
 rising-last (f ∷ g ∷ fs) c e (suc i) h = rising-last (g ∷ fs) c (both-true (ltb (f .id) (g .id)) (rising (g ∷ fs) c) e .1) i (omega arith)
 
-backs-at : (fs : List Frame) → goodBacks fs ≡ true → (i : ℕ) → i < length fs → (frameAt fs i .back .place ≤ 4096) × (variableOut (frameAt fs i .back .var) ≤ 256)
+pub backs-at : (fs : List Frame) → goodBacks fs ≡ true → (i : ℕ) → i < length fs → (frameAt fs i .back .place ≤ 4096) × (variableOut (frameAt fs i .back .var) ≤ 256)
 unfolding goodBacks goodBack
 backs-at [] e i h = absurd (not-suc-le-zero h)
 backs-at (f ∷ fs) e zero h =
@@ -159,18 +159,18 @@ abbrev variablesOf : (ℕ → Option Value) → List ℕ
 variablesOf vs = records 2 512 (λ x. valueWordOf (vs x))
 
 -- the memory's part of the list, as facts
-record Good (m : Memory) : Type 0 where
-  some : 1 ≤ length (m .frames)
-  deep : length (m .frames) ≤ 64
-  root : frameAt (m .frames) 0 .id ≡ 0
-  rises : rising (m .frames) (m .counter) ≡ true
-  counted : m .counter ≤ 4294967295
-  few : liveCount (m .frames) ≤ 512
-  used : liveBytes (m .frames) ≤ 32768
-  given : length (m .pointers) ≤ 4096
-  backs : goodBacks (m .frames) ≡ true
+pub record Good (m : Memory) : Type 0 where
+  pub some : 1 ≤ length (m .frames)
+  pub deep : length (m .frames) ≤ 64
+  pub root : frameAt (m .frames) 0 .id ≡ 0
+  pub rises : rising (m .frames) (m .counter) ≡ true
+  pub counted : m .counter ≤ 4294967295
+  pub few : liveCount (m .frames) ≤ 512
+  pub used : liveBytes (m .frames) ≤ 32768
+  pub given : length (m .pointers) ≤ 4096
+  pub backs : goodBacks (m .frames) ≡ true
 
-good-of : (m : Memory) → soundMemory m ≡ true → Good m
+pub good-of : (m : Memory) → soundMemory m ≡ true → Good m
 unfolding soundMemory
 good-of m e =
     let z = both-true (leb 1 (length (m .frames)) && leb (length (m .frames)) 64) _ e in

@@ -4,6 +4,7 @@ pub mod Beginning
 pub mod Bytes
 pub mod Copied
 pub mod Counts
+pub mod Encoded
 pub mod Every
 pub mod Exists
 pub mod Facts

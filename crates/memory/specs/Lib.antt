@@ -1,4 +1,5 @@
 pub mod Cases
+pub mod Encoded
 pub mod Flat
 pub mod Live
 pub mod Memory

@@ -1,4 +1,4 @@
-// The list of "A sound state", tested on the tables.
+// The list of "A sound state" and the rules of encoding, tested on the tables.
 ghost use mathlib.Core.Path.{_≡_};
 ghost use Prim.Native.Nat.{_<_, _≤_};
 ghost use lib.ListN.{length};
