@@ -103,7 +103,7 @@ dvd-divides n o d = rw (dvd-iff-mod-eq-zero n .0 d) tt
 
 module _ (h : History) (P : Program) (p n : ℕ) where
   -- the bytes of a target
-  bytesOf : Target → List ℕ
+  unfoldable pub bytesOf : Target → List ℕ
   bytesOf (ofConstant k) = take n (getD (P .constants) k [])
   bytesOf (ofPlace f j o) = bytesFrom (madeAt (h .made) f j) o n
 
@@ -200,7 +200,7 @@ module _ (h : History) (P : Program) (p n : ℕ) where
       go (ok bs) (grants r e) = inl r
       go (refused k) (refuses w) = inr (k, w)
 
-  right-bytes : {t : Target} → Right h P p n → StandsFor h p t → told (P .constants) h p n ≡ ok (bytesOf t)
+  pub right-bytes : {t : Target} → Right h P p n → StandsFor h p t → told (P .constants) h p n ≡ ok (bytesOf t)
   right-bytes r s =
       let g = right-told r in
       g .1 ∙ ap ok (of-ok (subst Tells (g .1) tells-what) .1 ∙ ap bytesOf (s .1))
@@ -302,7 +302,7 @@ module _ {m : Memory} {h : History} (s : Sim m h) where
       omega arith
 
   -- a local pointer, by what it stands for
-  home-of : {p f j o : ℕ} → StandsFor h p (ofPlace f j o) → (i : ℕ) × (pointerAt m p ≡ local i f j o) × Home (m .frames) (h .made) i f j
+  pub home-of : {p f j o : ℕ} → StandsFor h p (ofPlace f j o) → (i : ℕ) × (pointerAt m p ≡ local i f j o) × Home (m .frames) (h .made) i f j
   home-of {p} {f} {j} {o} (given, target) =
       go (pointerAt m p) refl (s .homes p (rw (same-length s) at given)) (sym (target-at s p) ∙ target)
     where
@@ -466,7 +466,7 @@ module _ (as′ : List Ask) (t : Accepted as′) (P : Program) (q p n : ℕ) (c 
   unfolding steps _>>=_
   copy-refused {k} w = ap (λ (x : Turn Memory). x .reply) (copy-turn (refused k) (why-told (tells as′) P p n w))
 
-  copy-right : stepped as′ P .reply ≡ done → Right (tells as′) P p n
+  pub copy-right : stepped as′ P .reply ≡ done → Right (tells as′) P p n
   copy-right d = elim (right-or-why (tells as′) P p n) [ inl g ↦ g | inr w ↦ absurd (done-not (sym d ∙ copy-refused (w .1))) ]
 
   copy-bytes : {f j o : ℕ} → StandsFor (tells as′) p (ofPlace f j o) → stepped as′ P .reply ≡ done

@@ -11,6 +11,8 @@ pub mod Kept
 pub mod SoundMemory
 pub mod Sound
 pub mod Demand
+pub mod Tells
 pub mod Sequence
+pub mod Orders
 pub mod Numbers
 pub mod Promises

@@ -16,13 +16,17 @@ use Rattle.machine.specs.Believed.{believed}
 use Rattle.machine.specs.Sound.{sound}
 use Rattle.machine.specs.Asks.{Ask, toAllocate, toWrite, toRead, toStart, toStep, toRun, toList, Reply, refusal, turn, changes, shows, steps, goes, lays, ask}
 use Rattle.machine.specs.Entries.{enter}
-use Rattle.machine.specs.Promises.{RefusedChangesNothing, KeepsSound, CountIsSteps, ReturnedStays}
+use Rattle.machine.specs.Promises.{RefusedChangesNothing, UnsoundRefused, KeepsSound, CountIsSteps, ReturnedStays}
 use Rattle.machine.proofs.Values.{Keeps, kept, keeps-need, keeps-after}
 use Rattle.machine.proofs.Sound.{enter-sound}
 use Rattle.machine.proofs.Count.{run-means}
 
 pub keeps-sound : KeepsSound
 keeps-sound a s t u = enter-sound a s t u .0
+
+pub unsound-refused : UnsoundRefused
+unfolding enter
+unsound-refused a s e = rw e refl
 
 pub count-is-steps : CountIsSteps
 count-is-steps P budget s = run-means believed P budget s

@@ -43,7 +43,7 @@ module _ {m : Memory} {h : History} (s : Sim m h) where
   unfolding liveBytes toldBytes
   same-bytes = rw (s .stack) (sums _ _ (m .frames) (λ i l. ap (λ (bss : List (List ℕ)). sum (map length bss)) (s .holds i l) ∙ lengths (madeIn (h .made) (frameAt (m .frames) i .id))))
 
-  same-depth : length (m .frames) ≡ length (h .standing)
+  pub same-depth : length (m .frames) ≡ length (h .standing)
   same-depth = sym (ap length (s .stack) ∙ length-map (m .frames) (λ (f : Frame). f .id))
 
   allocates : (n : ℕ) → Alike Sim (allocate m n) (tellAllocation h n)
@@ -95,7 +95,7 @@ module _ {m : Memory} {h : History} (s : Sim m h) where
       alike-same Sim _ _ idsSpent _ _ (ap (λ (x : ℕ). ltb x 4294967295) (s .counted)) (λ c. both-ok (push s b)))
 
   -- the frame that stands on top, by its name
-  same-top : frameAt (m .frames) (top (m .frames)) .id ≡ topFrame h
+  pub same-top : frameAt (m .frames) (top (m .frames)) .id ≡ topFrame h
   same-top =
       sym (ap (λ (l : List ℕ). getD l (length l - 1) 0) (s .stack) ∙ ap (λ (x : ℕ). getD (ids (m .frames)) (x - 1) 0) (length-map (m .frames) (λ (g : Frame). g .id))
       ∙ id-at (m .frames) (top (m .frames)))

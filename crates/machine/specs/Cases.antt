@@ -1,12 +1,14 @@
--- P1 to P10 of 01 and some orders of checks, as one list that is computed: each is a program, P1's from its image, started on fresh memory with these arguments and run.
+-- P1 to P10 of 01, by their numbers, and orders of checks, as two lists that are computed: each case is a program, P1's from its image, started on fresh memory with these
+-- arguments and run.
 use Prim.Native.Nat.{ℕ}
 use mathlib.Core.Bool.{Bool, true, false, _&&_}
-use mathlib.Core.List.{List, [], _∷_}
+use mathlib.Core.List.{List, [], _∷_, map}
 use mathlib.Core.Option.{Option, none, some}
 use lib.Dec.{eqb}
 use Rattle.value.specs.Answer.{Answer, ok, refused, _>>=_}
-use Rattle.value.specs.Refusal.{wrongKinds, outsideWidth, frameGone, beyondLength, misaligned, notBool, noReturnPlace, bytesExceedSize, noInstruction}
-use Rattle.value.specs.Value.{Value, value, Eq, ULt, FLt, IrType, bool, u8, u32, u64, i8, f32, pointer, tag, size}
+use Rattle.value.specs.Cases as Numbered
+use Rattle.value.specs.Refusal.{neverSet, wrongKinds, outsideWidth, frameGone, beyondLength, misaligned, notBool, noReturnPlace, bytesExceedSize, noInstruction}
+use Rattle.value.specs.Value.{Value, value, Eq, ULt, FLt, FGt, IrType, bool, u8, u32, u64, i8, f32, f64, pointer, tag, size}
 use Rattle.image.specs.Program.{Program, Operand, variable, literal, Slot, Item, Function, Instruction, Jump, Switch, Assign, ConstantAddress, Call, Return, IntCmp′, FloatCmp′, Add, Sub, Mul, Div, Mod, FDiv, Not, Negate, Offset, Initialize, Write, Read, Copy, Drop}
 use Rattle.image.specs.Image.{loaded}
 use Rattle.image.specs.Cases.{p1Image, programTaken}
@@ -51,6 +53,15 @@ runs mem c = M.start mem (c .program) 0 (value bool 0) (c .arguments) (M.fresh m
 unfoldable pub allHold : {M : Type 0} → Memories M → List Case → Bool
 allHold mem [] = true
 allHold mem (c ∷ cs) = ran c (runs mem c) && allHold mem cs
+
+-- a case of one of P1 to P10
+pub record Paper : Type 0 where
+  pub number : ℕ
+  pub case : Case
+
+-- by number, whether each comes out over a memory
+abbrev pub shown : {M : Type 0} → Memories M → List Paper → List Numbered.Case
+shown mem ps = map (λ (p : Paper). record { number = p .number; holds = ran (p .case) (runs mem (p .case)) }) ps
 
 -- ---- the programs
 
@@ -149,33 +160,74 @@ constants = record {
   blocks = (ConstantAddress 3 1 ∷ Read 2 (variable 3) IrType.U8 ∷ Return (some (variable 2)) ∷ []) ∷ [];
 }
 
+-- the functions' entries are other blocks than their numbers: the start enters at 1, and the Call of 1 at 2
+abbrev pub enters : Program
+enters = of (plain 1 [] [] ∷ plain 2 [] [] ∷ []) (
+    (Return (some (literal (value u8 1))) ∷ [])
+    ∷ (Call (some (record { to = 2; type = IrType.U8 })) none 1 [] none ∷ Return (some (variable 2)) ∷ [])
+    ∷ (Return (some (literal (value u8 3))) ∷ [])
+    ∷ [])
+
+-- one variable is the context's, the return pointer's and the parameter's, and where there is one the slot's: the last one set is returned
+abbrev pub shares : List Slot → Program
+shares slots = of (record { item = Item.function; entry = 0; returnVar = 2; contextVar = 2; returnPointer = true; parameters = 2 ∷ []; slots = slots } ∷ []) (
+    (Return (some (variable 2)) ∷ [])
+    ∷ [])
+
+-- a call with a place, of a function that returns none: what is in that place, which was 9
+abbrev pub keeps : Program
+keeps = of (plain 0 [] [] ∷ plain 1 [] [] ∷ []) (
+    (Assign 2 (literal (value u8 9)) IrType.U8 ∷ Call (some (record { to = 2; type = IrType.U8 })) none 1 [] none ∷ Return (some (variable 2)) ∷ [])
+    ∷ (Return none ∷ [])
+    ∷ [])
+
+-- a U32 is written, and the byte at an offset of it read
+abbrev pub byteOf : (offset : ℕ) → Program
+byteOf o = just (Initialize 3 4 [] ∷ Write (variable 3) (literal (value u32 0x04030201)) ∷ Offset 4 (variable 3) o ∷ Read 2 (variable 4) IrType.U8 ∷ Return (some (variable 2)) ∷ [])
+
+-- a value is written, and read as its type
+abbrev pub stores : Value → IrType → Program
+stores v type = just (Initialize 3 8 [] ∷ Write (variable 3) (literal v) ∷ Read 2 (variable 3) type ∷ Return (some (variable 2)) ∷ [])
+
 abbrev pub case : Program → List Value → ℕ → Outcome → ℕ → Case
 case P gs budget outcome count = record { program = P; arguments = gs; budget = budget; outcome = outcome; count = count }
 
+-- which of P1 to P10, and the case
+abbrev pub paper : ℕ → Program → List Value → ℕ → Outcome → ℕ → Paper
+paper n P gs budget outcome count = record { number = n; case = case P gs budget outcome count }
+
+-- ---- P1 to P10
+
+unfoldable pub papers : List Paper
+papers =
+    paper 1 p1 (value u8 41 ∷ []) 2 (returned (some (value u8 42))) 2
+    ∷ paper 1 p1 (value u8 41 ∷ []) 1 paused 1
+    ∷ paper 1 p1 (value u8 41 ∷ []) 0 paused 0
+    ∷ paper 1 p1 (value u8 255 ∷ []) 2 (stopped outsideWidth) 0
+    ∷ paper 2 (gives (Negate 2 (literal (value i8 129)))) [] 9 (returned (some (value i8 127))) 2
+    ∷ paper 2 (gives (Negate 2 (literal (value i8 128)))) [] 9 (stopped outsideWidth) 0
+    ∷ paper 3 (gives (Div 2 true (literal (value i8 249)) (literal (value i8 2)))) [] 9 (returned (some (value i8 253))) 2
+    ∷ paper 3 (gives (Mod 2 true (literal (value i8 249)) (literal (value i8 2)))) [] 9 (returned (some (value i8 255))) 2
+    ∷ paper 3 (gives (Mod 2 true (literal (value i8 128)) (literal (value i8 255)))) [] 9 (stopped outsideWidth) 0
+    ∷ paper 4 (p4 4) [] 9 (returned (some (value u32 0))) 4
+    ∷ paper 4 (p4 2) [] 9 (stopped misaligned) 2
+    ∷ paper 4 (p4 6) [] 9 (stopped beyondLength) 2
+    ∷ paper 5 (p5 0) [] 9 (returned none) 4
+    ∷ paper 5 (p5 8) [] 9 (stopped misaligned) 2
+    ∷ paper 5 (p5 9) [] 9 (stopped beyondLength) 2
+    ∷ paper 6 (gives (IntCmp′ 2 Eq (literal (value u64 5)) (literal (value u64 5)))) [] 9 (stopped wrongKinds) 0
+    ∷ paper 7 p7 [] 9 (stopped notBool) 1
+    ∷ paper 8 p8 (value u8 1 ∷ value u8 2 ∷ []) 9 (returned (some (value u8 34))) 7
+    ∷ paper 9 p9 [] 9 (returned (some (value u8 1))) 2
+    ∷ paper 10 p10 [] 9 (stopped frameGone) 3
+    ∷ []
+
+-- ---- the orders of checks, and what is easily got wrong
+
 unfoldable pub cases : List Case
 cases =
-    case p1 (value u8 41 ∷ []) 2 (returned (some (value u8 42))) 2
-    ∷ case p1 (value u8 41 ∷ []) 1 paused 1
-    ∷ case p1 (value u8 41 ∷ []) 0 paused 0
-    ∷ case p1 (value u8 255 ∷ []) 2 (stopped outsideWidth) 0
-    ∷ case (gives (Negate 2 (literal (value i8 129)))) [] 9 (returned (some (value i8 127))) 2
-    ∷ case (gives (Negate 2 (literal (value i8 128)))) [] 9 (stopped outsideWidth) 0
-    ∷ case (gives (Div 2 true (literal (value i8 249)) (literal (value i8 2)))) [] 9 (returned (some (value i8 253))) 2
-    ∷ case (gives (Mod 2 true (literal (value i8 249)) (literal (value i8 2)))) [] 9 (returned (some (value i8 255))) 2
-    ∷ case (gives (Mod 2 true (literal (value i8 128)) (literal (value i8 255)))) [] 9 (stopped outsideWidth) 0
-    ∷ case (p4 4) [] 9 (returned (some (value u32 0))) 4
-    ∷ case (p4 2) [] 9 (stopped misaligned) 2
-    ∷ case (p4 6) [] 9 (stopped beyondLength) 2
-    ∷ case (p5 0) [] 9 (returned none) 4
-    ∷ case (p5 8) [] 9 (stopped misaligned) 2
-    ∷ case (p5 9) [] 9 (stopped beyondLength) 2
-    ∷ case (gives (IntCmp′ 2 Eq (literal (value u64 5)) (literal (value u64 5)))) [] 9 (stopped wrongKinds) 0
-    ∷ case p7 [] 9 (stopped notBool) 1
-    ∷ case p8 (value u8 1 ∷ value u8 2 ∷ []) 9 (returned (some (value u8 34))) 7
-    ∷ case p9 [] 9 (returned (some (value u8 1))) 2
-    ∷ case p10 [] 9 (stopped frameGone) 3
-    -- the orders of checks, and what is easily got wrong: variables stay after a Return, a missing argument leaves the old value, a spare one is not read
-    ∷ case copies [] 9 (stopped misaligned) 2
+    -- variables stay after a Return, a missing argument leaves the old value, a spare one is not read
+    case copies [] 9 (stopped misaligned) 2
     ∷ case writes [] 9 (stopped wrongKinds) 0
     ∷ case (calls [] none 4) [] 9 (returned (some (value u8 5))) 6
     ∷ case (calls [] none 3) [] 9 (returned (some (value u8 1))) 6
@@ -197,6 +249,26 @@ cases =
     ∷ case jumps [] 9 (returned (some (value u8 2))) 3
     ∷ case pointers [] 9 (returned (some (value bool 0))) 3
     ∷ case constants [] 9 (returned (some (value u8 2))) 3
+    -- "Operands left to right, 21 each as read", and 22 after both: a Bool and a variable that is unset
+    ∷ case (gives (Mod 2 true (literal (value bool 1)) (variable 9))) [] 9 (stopped neverSet) 0
+    ∷ case (gives (FloatCmp′ 2 FLt (literal (value bool 1)) (variable 9))) [] 9 (stopped neverSet) 0
+    -- "the next place is the entry label's"; "sets the context, takes the first argument as return pointer where flagged, sets parameters in order, then makes slots"
+    ∷ case enters [] 9 (returned (some (value u8 3))) 3
+    ∷ case (shares []) (value u8 1 ∷ value u8 2 ∷ []) 9 (returned (some (value u8 2))) 1
+    ∷ case (shares (record { var = 2; size = 1 } ∷ [])) (value u8 1 ∷ value u8 2 ∷ []) 9 (returned (some (value pointer 0))) 1
+    -- "With none returned the call's variable keeps its value."
+    ∷ case keeps [] 9 (returned (some (value u8 9))) 4
+    -- an Offset of more than 16 bits
+    ∷ case (p4 65536) [] 9 (stopped beyondLength) 2
+    -- "Values are stored low byte first"; a NaN keeps its bits, and its sign flips; an F32's infinity lies above the largest F64
+    ∷ case (byteOf 0) [] 9 (returned (some (value u8 1))) 5
+    ∷ case (byteOf 1) [] 9 (returned (some (value u8 2))) 5
+    ∷ case (byteOf 2) [] 9 (returned (some (value u8 3))) 5
+    ∷ case (byteOf 3) [] 9 (returned (some (value u8 4))) 5
+    ∷ case (just (Initialize 3 4 (1 ∷ 2 ∷ []) ∷ Read 2 (variable 3) IrType.U32 ∷ Return (some (variable 2)) ∷ [])) [] 9 (returned (some (value u32 0x0201))) 3
+    ∷ case (stores (value f64 0x7ff0000000000001) IrType.F64) [] 9 (returned (some (value f64 0x7ff0000000000001))) 4
+    ∷ case (gives (Negate 2 (literal (value f32 0x7f800001)))) [] 9 (returned (some (value f32 0xff800001))) 2
+    ∷ case (gives (FloatCmp′ 2 FGt (literal (value f32 0x7f800000)) (literal (value f64 0x7fefffffffffffff)))) [] 9 (returned (some (value bool 1))) 2
     ∷ case (just []) [] 0 paused 0
     ∷ case (just []) [] 1 (stopped noInstruction) 0
     ∷ []

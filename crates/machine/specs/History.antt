@@ -25,6 +25,10 @@ pub record Made : Type 0 where
   pub size : ℕ
   pub byte : ℕ → ℕ
 
+-- one in which nothing was stored
+abbrev pub zeros : (size : ℕ) → Made
+zeros n = record { size = n; byte = λ i. 0 }
+
 -- what a pointer was given out for
 pub data Target : Type 0 where
   ofConstant : ℕ → Target
@@ -44,7 +48,7 @@ abbrev pub madeIn : List (List Made) → ℕ → List Made
 madeIn ms f = getD ms f []
 
 abbrev pub nothing : Made
-nothing = record { size = 0; byte = λ i. 0 }
+nothing = zeros 0
 
 abbrev pub madeAt : List (List Made) → (frame allocation : ℕ) → Made
 madeAt ms f j = getD (madeIn ms f) j nothing
@@ -66,6 +70,11 @@ storedAt ms (ofPlace f j o) bs = set ms f (set (madeIn ms f) j (storedIn (madeAt
 unfoldable pub moved : Target → ℕ → Target
 moved (ofConstant k) d = ofConstant k
 moved (ofPlace f j o) d = ofPlace f j (o + d)
+
+-- the starts of so many allocations of a frame, the first of them the j-th
+unfoldable pub starts : (frame j count : ℕ) → List Target
+starts f j zero = []
+starts f j (suc n) = ofPlace f j 0 ∷ starts f (suc j) n
 
 -- f is one of these
 unfoldable pub among : ℕ → List ℕ → Bool
@@ -110,7 +119,7 @@ lessTop h = record { made = h .made; below = h .below; backs = h .backs; standin
 unfoldable pub next : Event → History → History
 next (allocation n) h =
     let f = topFrame h in
-    withGiven (withMade h (set (h .made) f (madeIn (h .made) f ++ (record { size = n; byte = λ i. 0 } ∷ []))))
+    withGiven (withMade h (set (h .made) f (madeIn (h .made) f ++ (zeros n ∷ []))))
     (ofPlace f (length (madeIn (h .made) f)) 0)
 next (store p bs) h = withMade h (storedAt (h .made) (targetOf h p) bs)
 next (offset p d) h = withGiven h (moved (targetOf h p) d)

@@ -12,4 +12,5 @@ pub mod Flat
 pub mod Alike
 pub mod Demand
 pub mod Sequence
+pub mod Orders
 pub mod Promises

@@ -15,7 +15,7 @@ use Rattle.machine.specs.Machine.{Machine, ended, stopped, execute, step
 use Rattle.machine.specs.Believed.{believed}
 use Rattle.machine.specs.Sound.{sound}
 use Rattle.machine.specs.Accepted.{accepted, acceptedAsk}
-use Rattle.machine.specs.Asks.{Ask, toAllocate, toWrite, toRead, toStart, toStep, toRun, toList, refusal, ran}
+use Rattle.machine.specs.Asks.{Ask, toAllocate, toWrite, toRead, toStart, toStep, toRun, toList, refusal, ran, turn}
 use Rattle.machine.specs.Entries.{enter}
 use Rattle.machine.specs.History.{among}
 use Rattle.machine.specs.Count.{Means}
@@ -23,6 +23,10 @@ use Rattle.machine.specs.Count.{Means}
 -- "A refusal leaves state and lent buffers untouched, except that a run keeps the steps done before it."
 abbrev pub RefusedChangesNothing : Type 0
 RefusedChangesNothing = (a : Ask) (s : Machine Memory) (k : ℕ) → enter a s .reply ≡ refusal k → enter a s .machine ≡ s
+
+-- "10 state not sound": whatever is asked, before all else, and the state stays
+abbrev pub UnsoundRefused : Type 0
+UnsoundRefused = (a : Ask) (s : Machine Memory) → sound s ≡ false → enter a s ≡ turn (refusal Refusal.notSound) s
 
 -- a sound state stays sound, with any accepted program
 abbrev pub KeepsSound : Type 0

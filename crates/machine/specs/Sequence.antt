@@ -1,16 +1,19 @@
--- Two sequences that are computed: one that the theorems speak of, a Call, a Write in it, its Return, and then reads through both pointers;
--- and one of refused and granted entries, in the order of their checks.
+-- Sequences that are computed: one that the theorems speak of, a Call, a Write in it, its Return, and then reads through both pointers; one that stands in turn at each
+-- instruction that they speak of; and one of refused and granted entries, in the order of their checks.
+use Prim.Native.Nat.{ℕ}
 use mathlib.Core.Bool.{true, false}
-use mathlib.Core.List.{List, [], _∷_}
+use mathlib.Core.List.{List, [], _∷_, _++_}
 use mathlib.Core.Option.{none, some}
+use lib.ListN.{replicate}
 use Rattle.value.specs.Refusal.{frameGone, running, idle, noFunction, wrongArguments, notScalar, neverSet, bytesFull, shortTable}
 use Rattle.value.specs.Value.{IrType, value, bool, u8, u32, pointer}
-use Rattle.image.specs.Program.{Program, Item, variable, literal, Assign, Call, Return, Write}
+use Rattle.image.specs.Program.{Program, Item, variable, literal, Assign, Call, Return, Initialize, Write, Read, Copy}
 use Rattle.memory.specs.Live.{listed}
 use Rattle.memory.specs.Memory as Memory
 use Rattle.machine.specs.Machine.{Machine, unset, returned, paused, stopped}
 use Rattle.machine.specs.Accepted.{badChar}
 use Rattle.machine.specs.Asks.{Ask, toAllocate, toStart, toStep, toRun, toRead, toList, Reply, done, gave, bytes, ran, lists, refusal}
+use Rattle.machine.specs.Asks as Asks
 use Rattle.machine.specs.Cases.{plain, of}
 
 -- the function 0, with a slot in the variable 3, calls 1 and then 2, which have a slot each; 1 stores 7 in its own slot and 9 in its caller's
@@ -53,6 +56,29 @@ answered =
     ∷ bytes (0 ∷ 0 ∷ 0 ∷ 0 ∷ [])
     ∷ lists (listed true 0 0 0 ∷ listed false 1 0 0 ∷ listed true 1 0 0 ∷ [])
     ∷ []
+
+-- ---- each instruction in turn
+
+-- an allocation of two bytes in four, a store over them, another that they are copied to and read from, and a call with a slot
+abbrev pub walks : Program
+walks = of (plain 0 [] [] ∷ plain 1 [] (record { var = 5; size = 4 } ∷ []) ∷ []) (
+    (Initialize 3 4 (1 ∷ 2 ∷ [])
+    ∷ Write (variable 3) (literal (value u32 0x04030201))
+    ∷ Initialize 4 4 []
+    ∷ Copy (variable 4) (variable 3) 4
+    ∷ Read 2 (variable 4) IrType.U32
+    ∷ Call none none 1 [] none
+    ∷ Return (some (variable 2))
+    ∷ [])
+    ∷ (Return none ∷ [])
+    ∷ [])
+
+-- a start, and so many steps
+unfoldable pub walked : (steps : ℕ) → List Ask
+walked n = toStart walks 0 (value bool 0) [] ∷ replicate n (toStep walks)
+
+unfoldable pub walkAnswered : List Reply
+walkAnswered = done ∷ replicate 7 done ++ (Asks.returned (some (value u32 0x04030201)) ∷ [])
 
 -- ---- the entries
 
