@@ -2,20 +2,23 @@
 use Prim.Native.Nat.{ℕ, _+_, _-_, _<_, _≤_}
 use native.Mathlib.Nat.{sub-zero}
 use native.Mathlib.Omega.{arith}
-use mathlib.Core.Path.{_≡_, refl, sym, ap, _∙_}
-use mathlib.Core.Bool.{Bool, true, false}
+use mathlib.Core.Path.{_≡_, refl, sym, ap, _∙_, subst}
 use mathlib.Core.List.{List, [], _∷_, _++_, append-nil}
 use mathlib.Core.Option.{Option, none, some}
-use lib.Dec.{T, ltb}
 use lib.ListN.{length, take, drop, replicate, length-replicate, length-append}
 use lib.Seq.{take-at, length-take-le}
-use borrow.Author.Tests.{eq-eqb, ne-eqb, le-leb, lt-leb, lt-ltb, le-ltb, ltb-true, ltb-false}
+use borrow.Author.Tests.{eq-eqb, ne-eqb, le-leb, lt-ltb, le-ltb}
 use Rattle.value.specs.Refusal.{notSound, noInstruction, bytesExceedSize}
 use Rattle.value.specs.Answer.{Answer, ok, refused, need}
-use Rattle.value.specs.Value.{Value, IrType, Boolean, U8, U16, U32, U64, I8, I16, I32, I64, F32, F64, Pointer, value, kindOf, tag, size, bytesOf, fromBytes, leBytes, leNumber}
-use Rattle.value.specs.Tags.{kindAt, typeAt, named, holds}
-use Rattle.value.specs.Ir.{valueOf, typeOf, irType, made, tagged, written, answered, loaded}
+use Rattle.value.specs.Value.{Value, u64, i64, f64, pointer, IrType, Boolean, U8, U16, U32, U64, I8, I16, I32, I64, F32, F64, Pointer, kindOf, tag, size, bytesOf, fromBytes}
+use Rattle.value.specs.Tags.{kindAt, named, typeAt, holds}
+use Rattle.value.specs.Ir.{valueOf, irOf, typeOf, irType, made, tagged, written, answered, loaded}
+use Rattle.value.specs.Floats.{double}
 use Rattle.value.specs.declared.IrValue.{IrValue}
+use Rattle.value.specs.declared.IrValue.the-variants as ir
+use Rattle.value.specs.declared.Double.{Double}
+use Rattle.value.specs.declared.Loaded.{Loaded}
+use Rattle.value.specs.declared.Made.{Made}
 use Rattle.value.specs.declared.IrType as T
 use Rattle.value.specs.declared.Made.the-variants as M
 use Rattle.value.specs.declared.Tagged.the-variants as Tg
@@ -39,7 +42,7 @@ use Rattle.instruction.specs.Decode.{fieldAt, operandAt}
 use Rattle.instruction.specs.Compute.{answerOf, foundOf}
 use Rattle.instruction.specs.Variables.{found, evaluated}
 use Rattle.instruction.specs.Code.{stepped, finishedOf}
-use Rattle.instruction.specs.Short.{Word, unsigned, signed, float, pointer}
+use Rattle.instruction.specs.Short.{Word}
 use Rattle.instruction.specs.Storage.{asPointerOf, pointedOf, progressOf, storedOf, storedBy, writeOf, loadedAs, valueIn, readAs, readBy, readingOf, givenBy, madeOf, initializedOf, copyingOf}
 use Rattle.instruction.specs.declared.field.Field.{Field}
 use Rattle.instruction.specs.declared.field.Operand.{Operand}
@@ -82,13 +85,25 @@ module _ (v : Value) (n : ℕ) (after : List ℕ) (e : n ≡ size (v .kind)) (h 
   pub bytes-alone : size (v .kind) ≡ 8 → after ≡ bytesOf v
   bytes-alone w = front ∙ ap (λ (k : ℕ). bytesOf v ++ drop k zeros) (bytes-length v ∙ w) ∙ append-nil (bytesOf v)
 
--- any eight bytes are a value of such a kind
-pub stored-word : (t : Tables) (p : ℕ) {tag : ℕ} (w : Word tag) (b : ℕ) → b < 18446744073709551616 → writtenOf t p (leBytes 8 b) ≡ storedOf t p (found tag b)
-unfolding storedOf answerOf kindAt named tag holds need bytesOf size
-stored-word t p unsigned b h = rw (lt-ltb b 18446744073709551616 h)
-stored-word t p signed b h = rw (lt-ltb b 18446744073709551616 h)
-stored-word t p float b h = rw (lt-ltb b 18446744073709551616 h)
-stored-word t p pointer b h = rw (lt-ltb b 18446744073709551616 h)
+-- any eight bytes are a value of each such kind
+module _ (t b : ℕ) (h : b < 18446744073709551616) where
+  pub unsigned-word : t ≡ tag u64 → Word t b (M.Value (ir.U64 b))
+  unfolding made irOf kindAt named tag holds valueOf size
+  unsigned-word e = rw (e, lt-ltb b 18446744073709551616 h) (refl, refl)
+
+  pub signed-word : t ≡ tag i64 → (r : Made) → r ≡ made (kindAt (tag i64)) b → Word t b r
+  unfolding made irOf kindAt named tag holds valueOf size
+  signed-word e r d =
+      let is : made (kindAt (tag i64)) b ≡ M.Value (irOf i64 b) = rw (lt-ltb b 18446744073709551616 h) in
+      rw (e, d ∙ is) (is, refl)
+
+  pub float-word : t ≡ tag f64 → (x : Double) → x ≡ double b → Word t b (M.Value (ir.F64 x))
+  unfolding made irOf kindAt named tag holds valueOf size
+  float-word e x d = rw (e, d, lt-ltb b 18446744073709551616 h) (refl, refl)
+
+  pub pointer-word : t ≡ tag pointer → Word t b (M.Value (ir.Pointer b))
+  unfolding made irOf kindAt named tag holds valueOf size
+  pointer-word e = rw (e, lt-ltb b 18446744073709551616 h) (refl, refl)
 
 module _ (t : Tables) (p : ℕ) (v : Found) where
   pub not-stored : v .tag ≡ 0 → both (outcome.Refused (v .bits)) (t .store) ≡ storedOf t p v
@@ -125,50 +140,16 @@ unfolding answered
 loaded-back (ok v) (kept g) = ap (λ (w : Value). found (tag (w .kind)) (w .bits)) (bits-back (v .kind) (v .bits) (is-true (holds (v .kind) (v .bits)) g))
 loaded-back (refused n) k = refl
 
+-- a type that is named is read as itself
+pub named-loaded : (ty own : T.IrType) (bs : List ℕ) (r : Loaded) (v : Found) → ty ≡ own → r ≡ loaded (typeOf own) bs → v ≡ loadedAs r → v ≡ loadedAs (loaded (typeOf ty) bs)
+named-loaded ty own bs r v e h g = g ∙ ap loadedAs (h ∙ ap (λ (t : T.IrType). loaded (typeOf t) bs) (sym e))
+
 -- a type's own number of bytes, at the front of others
 loaded-front : (ty : IrType) (bs : List ℕ) → size (kindOf ty) ≤ length bs → AreBytes bs → loadedAs (loaded ty bs) ≡ foundOf (fromBytes ty (take (size (kindOf ty)) bs))
 unfolding loaded
 loaded-front ty bs h small =
     let n = size (kindOf ty) in
     rw (le-leb n (length bs) h) (loaded-back (fromBytes ty (take n bs)) (read-good ty (take n bs) (length-take-le n bs h, are-bytes (take n bs) (take-bytes n bs small))))
-
--- a type of eight bytes takes any
-word-bytes : (ty : IrType) → size (kindOf ty) ≡ 8 → (bs : List ℕ) → fromBytes ty bs ≡ ok (value (kindOf ty) (leNumber bs))
-unfolding fromBytes kindOf size tag need
-word-bytes Boolean e bs = absurd (omega arith)
-word-bytes U8 e bs = absurd (omega arith)
-word-bytes U16 e bs = absurd (omega arith)
-word-bytes U32 e bs = absurd (omega arith)
-word-bytes U64 e bs = refl
-word-bytes I8 e bs = absurd (omega arith)
-word-bytes I16 e bs = absurd (omega arith)
-word-bytes I32 e bs = absurd (omega arith)
-word-bytes I64 e bs = refl
-word-bytes F32 e bs = absurd (omega arith)
-word-bytes F64 e bs = refl
-word-bytes Pointer e bs = refl
-
-word-front : (ty : IrType) → size (kindOf ty) ≡ 8 → (bs : List ℕ) → 8 ≤ length bs → AreBytes bs → loadedAs (loaded ty bs) ≡ found (tag (kindOf ty)) (leNumber (take 8 bs))
-word-front ty e bs h small =
-    loaded-front ty bs (rw e h) small
-    ∙ ap foundOf (ap (λ (n : ℕ). fromBytes ty (take n bs)) e ∙ word-bytes ty e (take 8 bs))
-
-too-few : (bs : List ℕ) → length bs < 8 → loadedAs (loaded U64 bs) .tag ≡ 0
-unfolding loaded kindOf size
-too-few bs h = rw (lt-leb 8 (length bs) h)
-
--- the bits of a U64, with a type's own tag
-pub word-loaded : (ty : IrType) → size (kindOf ty) ≡ 8 → (bs : List ℕ) → AreBytes bs → (w : Found) → w ≡ loadedAs (loaded U64 bs) → (w .tag ≡ 0 → ⊥) → (g : ℕ) → g ≡ tag (kindOf ty)
-    → found g (w .bits) ≡ loadedAs (loaded ty bs)
-unfolding kindOf size
-word-loaded ty e bs small w h n g d = go (ltb (length bs) 8) refl
-  where
-    go : (b : Bool) → ltb (length bs) 8 ≡ b → found g (w .bits) ≡ loadedAs (loaded ty bs)
-    go true l = absurd (n (ap (λ (r : Found). r .tag) h ∙ too-few bs (ltb-true (length bs) 8 l)))
-    go false l =
-        let m : 8 ≤ length bs = ltb-false (length bs) 8 l in
-        ap (λ (r : Found). found g (r .bits)) (h ∙ word-front U64 refl bs m small)
-        ∙ ap (λ (k : ℕ). found k (leNumber (take 8 bs))) d ∙ sym (word-front ty e bs m small)
 
 module _ (t : Tables) (p : ℕ) (ty : IrType) (raw extents : List ℕ) (n : ℕ) (l : n ≡ size (kindOf ty)) where
   abbrev fresh : List ℕ

@@ -54,8 +54,7 @@ compared u16 test a b = refl
 compared u32 test a b = refl
 compared u64 test a b = refl
 
-shown : (b : Bool) → found 1 (pick b 1 0) ≡ foundOf (ok (truth b))
-unfolding tag
+shown : (b : Bool) → found (tag Kinds.bool) (pick b 1 0) ≡ foundOf (ok (truth b))
 shown true = refl
 shown false = refl
 
@@ -113,24 +112,24 @@ module _ (t top a b : ℕ) (p : Alike t top a b) where
   differences how h = taken (p .kind) how a b (p .first) h ∙ ap foundOf (both 9 how t top a b p)
 
   module _ (how : ℕ) (test : Test) (named : (x y : Value) → operated 6 how x y ≡ unsignedOrder test x y) where
-    ordered : (b′ : Bool) → passes test (naturals a b) ≡ b′ → found 1 (pick b′ 1 0) ≡ foundOf (binaryOf 6 how (found t a) (found t b))
+    ordered : (b′ : Bool) → passes test (naturals a b) ≡ b′ → found (tag Kinds.bool) (pick b′ 1 0) ≡ foundOf (binaryOf 6 how (found t a) (found t b))
     ordered b′ e =
         shown b′ ∙ ap (λ (d : Bool). foundOf (ok (truth d))) (sym e)
         ∙ ap foundOf (sym (named (value (kind (p .kind)) a) (value (kind (p .kind)) b) ∙ compared (p .kind) test a b) ∙ both 6 how t top a b p)
 
-  pub ult : found 1 (pick (ltb a b) 1 0) ≡ foundOf (binaryOf 6 2 (found t a) (found t b))
+  pub ult : found (tag Kinds.bool) (pick (ltb a b) 1 0) ≡ foundOf (binaryOf 6 2 (found t a) (found t b))
   unfolding operated comparedInts intCmpAt compareInts
   ult = ordered 2 lt (λ x y. refl) (ltb a b) (below a b)
 
-  pub ule : found 1 (pick (leb a b) 1 0) ≡ foundOf (binaryOf 6 3 (found t a) (found t b))
+  pub ule : found (tag Kinds.bool) (pick (leb a b) 1 0) ≡ foundOf (binaryOf 6 3 (found t a) (found t b))
   unfolding operated comparedInts intCmpAt compareInts
   ule = ordered 3 le (λ x y. refl) (leb a b) (not-above a b)
 
-  pub ugt : found 1 (pick (ltb b a) 1 0) ≡ foundOf (binaryOf 6 4 (found t a) (found t b))
+  pub ugt : found (tag Kinds.bool) (pick (ltb b a) 1 0) ≡ foundOf (binaryOf 6 4 (found t a) (found t b))
   unfolding operated comparedInts intCmpAt compareInts
   ugt = ordered 4 gt (λ x y. refl) (ltb b a) (above a b)
 
-  pub uge : found 1 (pick (leb b a) 1 0) ≡ foundOf (binaryOf 6 5 (found t a) (found t b))
+  pub uge : found (tag Kinds.bool) (pick (leb b a) 1 0) ≡ foundOf (binaryOf 6 5 (found t a) (found t b))
   unfolding operated comparedInts intCmpAt compareInts
   uge = ordered 5 ge (λ x y. refl) (leb b a) (not-below a b)
 

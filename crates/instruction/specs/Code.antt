@@ -5,6 +5,7 @@ use lib.ListN.{length, getD}
 use lib.Dec.{ltb, eqb}
 use Rattle.value.specs.Refusal.{noInstruction, wrongKinds}
 use Rattle.value.specs.Answer.{pick}
+use Rattle.value.specs.Value.{tag, u32}
 use Rattle.memory.specs.Tables.{Both, both, registers}
 use Rattle.memory.specs.declared.Registers.{Registers}
 use Rattle.instruction.specs.Decode.{field, fieldAt, operandAt}
@@ -49,7 +50,7 @@ unfoldable pub jumpedOf : Registers → (image labels : List ℕ) → (at : ℕ)
 jumpedOf m s labels at = wentOf m labels (fieldAt s at)
 
 unfoldable pub keyOf : Found → Found
-keyOf v = pick (ltb 4 (v .tag)) (found 0 wrongKinds) v
+keyOf v = pick (ltb (tag u32) (v .tag)) (found 0 wrongKinds) v
 
 -- the label of the first of n branches with this number, or the default
 unfoldable pub branchOf : (image : List ℕ) → (n bits at : ℕ) → Field

@@ -3,13 +3,20 @@ use Prim.Native.Nat.{ℕ, _+_, _*_, _%_, _≤_, _<_}
 use mathlib.Core.List.{List}
 use mathlib.Core.Path.{_≡_}
 use lib.ListN.{length, getD}
+use Rattle.value.specs.Value.{size, tag}
+use Rattle.value.specs.Value as Kinds
+use Rattle.value.specs.Tags.{kindAt}
+use Rattle.value.specs.Ir.{valueOf}
+use Rattle.value.specs.Ir.{made as madeOf}
+use Rattle.value.specs.declared.Made.{Made}
+use Rattle.value.specs.declared.Made.the-variants as made
 
--- "2 U8, 3 U16, 4 U32, 5 U64": a tag, and the greatest number of its kind
+-- the tag of an unsigned kind, and the greatest number of the kind
 pub data Unsigned : (tag top : ℕ) → Type 0 where
-  u8 : Unsigned 2 255
-  u16 : Unsigned 3 65535
-  u32 : Unsigned 4 4294967295
-  u64 : Unsigned 5 18446744073709551615
+  u8 : Unsigned (tag Kinds.u8) 255
+  u16 : Unsigned (tag Kinds.u16) 65535
+  u32 : Unsigned (tag Kinds.u32) 4294967295
+  u64 : Unsigned (tag Kinds.u64) 18446744073709551615
 
 -- two numbers of one such kind
 pub record Alike (tag top a b : ℕ) : Type 0 where
@@ -17,12 +24,10 @@ pub record Alike (tag top a b : ℕ) : Type 0 where
   pub first : a ≤ top
   pub second : b ≤ top
 
--- "5 U64", "9 I64", "11 F64", "14 Pointer": the tags of the kinds that take eight bytes
-pub data Word : (tag : ℕ) → Type 0 where
-  unsigned : Word 5
-  signed : Word 9
-  float : Word 11
-  pointer : Word 14
+-- nothing, or the value that a tag and bits are, which takes eight bytes
+abbrev pub Word : (tag bits : ℕ) → Made → Type 0
+Word tag bits made.Nothing = Unit {0}
+Word tag bits (made.Value v) = (madeOf (kindAt tag) bits ≡ made.Value v) × (size (valueOf v .kind) ≡ 8)
 
 -- n pairs of numbers of one byte, from this place on
 pub record Pairs (s : List ℕ) (at n : ℕ) : Type 0 where

@@ -1,6 +1,7 @@
 // What the instructions that only compute make of their operands' values, as tags and bits.
 ghost use mathlib.Core.Path.{_≡_};
 ghost use Prim.Native.Nat.{ℕ};
+ghost use Rattle.value.specs.Value.{tag, bool};
 ghost use Rattle.value.specs.Tags.{intCmpAt, floatCmpAt};
 ghost use Rattle.value.specs.Ir.{valueOf, computed};
 ghost use Rattle.value.specs.Answer.{pick};
@@ -111,7 +112,7 @@ fn greatest(tag: u64) -> u64
 
 // A Bool's tag and bits.
 fn truth(test: bool) -> Found
-    ensures { λ r. ⌜ r ≡ found 1 (pick test 1 0) ⌝ }
+    ensures { λ r. ⌜ r ≡ found (tag bool) (pick test 1 0) ⌝ }
 {
     Found {
         tag: IrType::BOOL_TAG,

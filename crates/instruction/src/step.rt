@@ -16,6 +16,7 @@ use crate::variables::Found;
 use crate::variables::evaluate;
 use crate::variables::set_variable;
 use memory::Registers;
+use value::IrType;
 use value::refusal::NO_INSTRUCTION;
 use value::refusal::WRONG_KINDS;
 
@@ -80,7 +81,7 @@ pub fn jump(m: Registers, image: &[u8], at: usize, labels: &[usize]) -> Progress
 pub fn key(v: Found) -> Found
     ensures { λ r. ⌜ r ≡ keyOf v ⌝ }
 {
-    if 4 < v.tag {
+    if IrType::U32_TAG < v.tag {
         return Found {
             tag: 0,
             bits: WRONG_KINDS,

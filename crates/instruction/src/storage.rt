@@ -1,10 +1,9 @@
 // The instructions that reach through pointers: Initialize, Write, Read and Copy.
 ghost use mathlib.Core.Path.{_≡_};
-ghost use mathlib.Core.Bool.{true};
 ghost use Rattle.memory.specs.Tables.{tables, both, out, writtenOf};
 ghost use Rattle.instruction.specs.Compute.{foundOf};
-ghost use Rattle.value.specs.Value.{leBytes};
-ghost use Rattle.value.specs.Ir.{typeOf};
+ghost use Rattle.value.specs.Value.{size, bytesOf};
+ghost use Rattle.value.specs.Ir.{typeOf, valueOf};
 ghost use Rattle.value.specs.Ir.{loaded as Ir·loaded};
 ghost use Rattle.instruction.specs.Short.{Word};
 ghost use Rattle.instruction.specs.Code.{stepped};
@@ -27,6 +26,7 @@ use memory::allocate;
 use memory::constant_access;
 use memory::read_access;
 use memory::write_bytes;
+use value::Double;
 use value::IrType;
 use value::IrValue;
 use value::Loaded;
@@ -47,35 +47,38 @@ pub fn progress(m: Registers, r: Outcome) -> Progress
     }
 }
 
-// Whether any eight bytes are a value of the tag's kind: U64, I64, F64 and Pointer.
-fn is_word(tag: u64) -> bool
-    ensures { λ r. ⌜ (r ≡ true → Word tag) ⌝ }
+// The value of a tag and bits, where it is one of eight bytes: made by its own case, without a search for its kind.
+fn word(tag: u64, bits: u64) -> Made
+    ensures { λ r. ⌜ Word tag bits r ⌝ }
 {
     match tag {
-        IrType::U64_TAG | IrType::I64_TAG | IrType::F64_TAG | IrType::POINTER_TAG => true,
-        _ => false,
+        IrType::U64_TAG => Made::Value(IrValue::U64(bits)),
+        IrType::I64_TAG => IrValue::from_bits(IrType::I64_TAG, bits),
+        IrType::F64_TAG => Made::Value(IrValue::F64(Double::from_bits(bits))),
+        IrType::POINTER_TAG => Made::Value(IrValue::Pointer(bits)),
+        _ => Made::Nothing,
     }
 }
 
-// Eight bytes, low byte first, are written through pointer p.
+// The bytes of a value that takes eight are written through pointer p.
 fn write_word(
     m: Registers,
     p: usize,
-    bits: u64,
+    value: IrValue,
     store: &mut [u8],
     frames: &[u64],
     bounds: &[u64],
     pointers: &[u64],
 ) -> Outcome
-    ensures { λ a. ⌜ both a (now (store .exit)) ≡ writtenOf (tables m (now (store .entry)) (now (frames .entry)) (now (bounds .entry)) (now (pointers .entry))) p (leBytes 8 bits) ⌝ }
+    requires { ⌜ size (valueOf value .kind) ≡ 8 ⌝ }
+    ensures { λ a. ⌜ both a (now (store .exit)) ≡ writtenOf (tables m (now (store .entry)) (now (frames .entry)) (now (bounds .entry)) (now (pointers .entry))) p (bytesOf (valueOf value)) ⌝ }
 {
-    let value = IrValue::U64(bits);
     let mut bytes = [0u8; 8];
     value.write(&mut bytes);
     write_bytes(m, p, &bytes, store, frames, bounds, pointers)
 }
 
-// The value's bytes are written through pointer p. Those that take eight are written without a search for their kind.
+// The value's bytes are written through pointer p.
 pub fn write_value(
     m: Registers,
     p: usize,
@@ -90,8 +93,8 @@ pub fn write_value(
     if v.tag == 0 {
         return Outcome::Refused(v.bits);
     }
-    if is_word(v.tag) {
-        return write_word(m, p, v.bits, store, frames, bounds, pointers);
+    if let Made::Value(value) = word(v.tag, v.bits) {
+        return write_word(m, p, value, store, frames, bounds, pointers);
     }
     match IrValue::from_bits(v.tag, v.bits) {
         Made::Value(value) => {
@@ -145,20 +148,17 @@ pub fn loaded(r: Loaded) -> Found
     }
 }
 
-// The value of the type at the front of `from`. One of eight bytes is read as a U64, and has its own tag.
+// The value of the type at the front of `from`. A type of eight bytes is named, so that its read is compiled for it alone.
 fn value_in(ty: IrType, from: &[u8]) -> Found
     ensures { λ r. ⌜ r ≡ loadedAs (Ir·loaded (typeOf ty) (now (from .entry))) ⌝ }
 {
-    if ty.size() == 8 {
-        let word = loaded(IrValue::read(IrType::U64, from));
-        if word.tag != 0 {
-            return Found {
-                tag: ty.tag(),
-                bits: word.bits,
-            };
-        }
+    match ty {
+        IrType::U64 => loaded(IrValue::read(IrType::U64, from)),
+        IrType::I64 => loaded(IrValue::read(IrType::I64, from)),
+        IrType::F64 => loaded(IrValue::read(IrType::F64, from)),
+        IrType::Pointer => loaded(IrValue::read(IrType::Pointer, from)),
+        _ => loaded(IrValue::read(ty, from)),
     }
-    loaded(IrValue::read(ty, from))
 }
 
 // A value of the type, through pointer p.

@@ -2,6 +2,7 @@
 use Prim.Native.Nat.{ℕ}
 use mathlib.Core.Path.{ap}
 use borrow.Author.Needs.{needs}
+use Rattle.value.specs.Value.{tag}
 use Rattle.value.proofs.Roundtrip.{byte-of}
 use Rattle.instruction.specs.Variables.{found}
 use Rattle.instruction.proofs.compute.truth.Statement.{statement}
@@ -11,6 +12,7 @@ cast-t2 : tie.Need-cast-t2
 cast-t2 c = search needs
 
 returns : tie.Need-returns
+unfolding tag
 returns c = ap (λ (n : ℕ). found 1 n) (byte-of (c .args .test))
 
 pub truth-spec : {M : Type 1} → statement M

@@ -1,31 +1,39 @@
--- `storage::write_value` meets its contract: a refusal, or the eight bytes of a word, or the value's own bytes written.
-use mathlib.Core.Path.{sym, _∙_}
+-- `storage::write_value` meets its contract: a refusal, or the value's own bytes written, made the short way or the general one.
+use mathlib.Core.Path.{refl, sym, _∙_, subst}
 use borrow.Author.Needs.{needs}
-use native.Mathlib.Omega.{arith}
-use Rattle.instruction.proofs.Through.{bytes-fit, bytes-in-front, stored-word, not-stored, stored-unsound, stored-value}
+use Rattle.instruction.specs.Short.{Word}
+use Rattle.instruction.proofs.Through.{bytes-fit, bytes-in-front, not-stored, stored-unsound, stored-value}
 use Rattle.instruction.proofs.storage.write_value.Statement.{statement}
 use Rattle.instruction.proofs.storage.write_value.Tie as tie
 
 returns : tie.Need-returns
 returns c = not-stored _ _ _ (c .if1 .taken)
 
-is-word-requires : tie.Need-is-word-requires
-is-word-requires c κs = search needs
+word-requires : tie.Need-word-requires
+word-requires c κs = search needs
+
+enum-known-value : tie.Need-enum-known-value
+enum-known-value c = search needs
 
 write-word-requires : tie.Need-write-word-requires
-write-word-requires c κs = search needs
+write-word-requires c κs = subst (Word _ _) (c .before .before .value .given .1) (c .before .before .before .before .word .ensures) .1
 
 same-length : tie.Need-same-length
 same-length c = search needs
 
 returns-2 : tie.Need-returns-2
-returns-2 c = c .before .before .write-word .ensures ∙ stored-word _ _ (c .before .before .before .before .before .is-word .ensures (c .before .before .before .before .if2 .taken)) _ (omega arith)
+returns-2 c =
+    stored-value _ _ _ (c .before .before .before .before .before .before .before .before .if1 .left) _ (subst (Word _ _) (c .before .before .before .before .before .value .given .1) (c .before .before .before .before .before .before .before .word .ensures) .0)
+    _ refl _ (c .before .before .write-word .ensures)
+
+enum-told : tie.Need-enum-told
+enum-told c = search needs
 
 from-bits-requires : tie.Need-from-bits-requires
 from-bits-requires c κs = search needs
 
-enum-known-value : tie.Need-enum-known-value
-enum-known-value c = search needs
+enum-known-value-2 : tie.Need-enum-known-value-2
+enum-known-value-2 c = search needs
 
 slice-aggregate-write : tie.Need-slice-aggregate-write
 slice-aggregate-write c = search needs
@@ -48,31 +56,33 @@ part-write-bytes-end c = bytes-fit _ _ _ (c .before .size .ensures) (c .before .
 write-bytes-requires : tie.Need-write-bytes-requires
 write-bytes-requires c κs = search needs
 
-enum-told : tie.Need-enum-told
-enum-told c = search needs
+enum-told-2 : tie.Need-enum-told-2
+enum-told-2 c = search needs
 
 same-length-2 : tie.Need-same-length-2
 same-length-2 c = search needs
 
 returns-3 : tie.Need-returns-3
 returns-3 c =
-    stored-value _ _ _ (c .before .before .before .before .before .before .before .before .before .before .before .before .before .before .before .before .if1 .left) _ (sym (c .before .before .before .before .before .before .before .before .before .before .before .before .before .from-bits .ensures) ∙ c .before .before .before .before .before .before .before .before .before .before .before .value .given .1)
+    stored-value _ _ _ (c .before .before .before .before .before .before .before .before .before .before .before .before .before .before .before .before .before .if1 .left) _ (sym (c .before .before .before .before .before .before .before .before .before .before .before .before .before .from-bits .ensures) ∙ c .before .before .before .before .before .before .before .before .before .before .before .value2 .given .1)
     _ (bytes-in-front _ _ _ (c .before .before .before .before .before .before .size .ensures) (c .before .before .before .before .before .before .before .before .write .ensures .1)) _ (c .before .before .write-bytes .ensures)
 
 returns-4 : tie.Need-returns-4
-returns-4 c = stored-unsound _ _ _ (c .before .before .before .before .before .if1 .left) (sym (c .before .before .from-bits .ensures) ∙ c .enum-told .given .1)
+returns-4 c = stored-unsound _ _ _ (c .before .before .before .before .before .before .if1 .left) (sym (c .before .before .from-bits .ensures) ∙ c .enum-told2 .given .1)
 
 pub write-value-spec : {M : Type 1} → statement M
 write-value-spec =
     tie.close
     (tie.spec
     returns
-    is-word-requires
+    word-requires
+    enum-known-value
     write-word-requires
     same-length
     returns-2
+    enum-told
     from-bits-requires
-    enum-known-value
+    enum-known-value-2
     slice-aggregate-write
     write-requires
     size-requires
@@ -80,7 +90,7 @@ write-value-spec =
     part-write-bytes-start
     part-write-bytes-end
     write-bytes-requires
-    enum-told
+    enum-told-2
     same-length-2
     returns-3
     returns-4)

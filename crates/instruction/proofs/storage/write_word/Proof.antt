@@ -1,7 +1,5 @@
--- `storage::write_word` meets its contract: a U64's bytes are the eight, and fill the array.
+-- `storage::write_word` meets its contract: the value's bytes are eight, and fill the array.
 use mathlib.Core.Path.{refl, ap, _∙_}
-use Rattle.value.specs.Value.{value, u64, bytesOf, size}
-use Rattle.value.specs.Ir.{valueOf}
 use Rattle.memory.specs.Tables.{writtenOf}
 use Rattle.instruction.proofs.Through.{bytes-alone}
 use borrow.Author.Needs.{needs}
@@ -24,8 +22,7 @@ same-length : tie.Need-same-length
 same-length c = search needs
 
 returns : tie.Need-returns
-unfolding valueOf bytesOf size
-returns c = c .before .before .write-bytes .ensures ∙ ap (writtenOf _ _) (bytes-alone (value u64 _) 8 _ refl (c .before .before .before .before .before .before .write .ensures .1) refl)
+returns c = c .before .before .write-bytes .ensures ∙ ap (writtenOf _ _) (bytes-alone _ _ _ refl (c .before .before .before .before .before .before .write .ensures .1) (c .before .before .before .before .before .before .before .before .before .before .before .before .pre))
 
 pub write-word-spec : {M : Type 1} → statement M
 write-word-spec =
