@@ -70,7 +70,7 @@ chosen-fits P bits default (b ∷ bs) f l = by-test (eqb bits (b .number)) (λ t
 
 -- ---- the number that Switch looks at
 
-key-kind : (k : Kind) → ltb 4 (tag k) ≡ not (switches k)
+key-kind : (k : Kind) → ltb (tag u32) (tag k) ≡ not (switches k)
 unfolding tag
 key-kind bool = refl
 key-kind u8 = refl
@@ -108,7 +108,7 @@ module _ (s : State) (st : Steady s) (image labels : List ℕ) (P : Program) (la
       → ((bits : ℕ) → (next : ℕ) × (branch bits ≡ field (choose bits bs default) next) × (0 < next)) → (a : Answer Value)
       → Agrees s (pick (eqb (keyOf (foundOf a) .tag) 0) (Refused (keyOf (foundOf a) .bits)) (wentOf (onward s) labels (branch (keyOf (foundOf a) .bits))))
       (withVariables s (s .variables)) (a >>= λ v. switchOn v >>= λ n. jump believed (seen s) (placeOf P (choose n bs default)))
-  unfolding keyOf switchOn need _>>=_
+  unfolding keyOf switchOn need _>>=_ tag
   switched bs default f l branch reads (refused n) = refusal refl
   switched bs default f l branch reads (ok v) =
       let (next, e, p) = reads (v .bits) in

@@ -2,14 +2,14 @@
 use Prim.Native.Nat.{ℕ, zero, suc, _+_, _-_, _*_, _≤_, _<_}
 use native.Mathlib.Omega.{arith}
 use mathlib.Core.Bool.{false}
-use mathlib.Core.Path.{_≡_, refl, subst}
+use mathlib.Core.Path.{_≡_, refl, sym, ap, subst}
 use mathlib.Core.List.{List, []}
 use mathlib.Core.Option.{Option, none, some}
 use lib.ListN.{getD}
 use lib.Dec.{leb}
 use borrow.Author.Tests.{eq-eqb, ne-eqb, le-leb, lt-leb, le-ltb, leb-true, leb-false}
 use Rattle.value.specs.Answer.{Answer, ok, refused, _>>=_}
-use Rattle.value.specs.Value.{Value, tag}
+use Rattle.value.specs.Value.{Value}
 use Rattle.value.proofs.Tags.{tag-some}
 use Rattle.image.specs.Program.{Program, Operand, Return}
 use Rattle.image.specs.Written.{maybe}
@@ -27,13 +27,11 @@ use Rattle.machine.specs.Machine.{valueOf, valueIf, setReturned, leave, ended, 
 use Rattle.machine.specs.Believed.{believed}
 use Rattle.machine.proofs.Values.{Keeps, kept, Good}
 use Rattle.image.specs.Standing.{Stand}
-use Rattle.instruction.specs.Variables.{found}
 use Rattle.instruction.specs.Compute.{foundOf}
 use Rattle.instruction.specs.Storage.{backOf, leftOf, returnedOf}
-use Rattle.instruction.specs.declared.variables.Found.{Found}
 use Rattle.instruction.specs.declared.step.Progress.the-variants.{Refused}
 use Rattle.calls.proofs.CallAgrees.{moved-sound, moved-seen}
-use Rattle.agree.specs.Seen.{seen, returnedIn}
+use Rattle.agree.specs.Seen.{seen, returnedIn, foundIf}
 use Rattle.instruction.proofs.Fields.{field-stands, operand-last}
 use Rattle.instruction.proofs.Values.{Fits, operand-found, operand-good, variable-set, variables-kept}
 use Rattle.agree.proofs.Steady.{Steady, runs, rests}
@@ -66,10 +64,6 @@ module _ (t : Tables) (so : Sound t) where
       subst (λ k. getD (t .frames) k 0 ≤ 256) i (so .each (t .registers .depth - 1) (omega arith) .variable)
 
 -- ---- a value or none, as a tag and bits
-
-abbrev foundIf : Option Value → Found
-foundIf none = found 0 0
-foundIf (some v) = found (tag (v .kind)) (v .bits)
 
 abbrev GoodIf : Option Value → Type 0
 GoodIf none = Unit
@@ -113,7 +107,7 @@ module _ (s : State) (st : Steady s) where
       rw (← pop-view t (st .memory), pop-root t (st .memory) one)
       (record {
         same = λ i. ok (ended (returned-back v i) (record { memory = moved-seen t 0 (t .registers .next) i; running = false; place = t .registers .next; vars = variablesIn (s .variables) }));
-        kept = (rests _ _ (moved-sound _ _ _ (st .memory)) (st .variables) refl (omega (arith, st .memory .some)) (st .place), st .bytes);
+        kept = (rests _ _ (moved-sound _ _ _ (st .memory)) (st .variables) refl (omega (arith, st .memory .some)) (st .place), st .bytes, ap foundIf (sym (returned-back v)));
       }))
       (λ b. let more = leb-false (t .registers .depth) 1 b in
       let e = pop-frame t (st .memory) more in
