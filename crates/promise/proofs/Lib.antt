@@ -1,4 +1,5 @@
 pub mod Refused
+pub mod Encoded
 pub mod Lent
 pub mod Untouched
 pub mod Answers
@@ -8,3 +9,4 @@ pub mod Extents
 pub mod Tells
 pub mod Listed
 pub mod Numbers
+pub mod First

@@ -15,7 +15,7 @@ use Rattle.promise.specs.Calls.{allocating, writing, reading, starting, 
 use Rattle.promise.specs.Promised.{ImagesRefused, UnsoundRefused}
 
 -- an image that is refused is read to there
-refused-end : (s : List ℕ) (n q : ℕ) → loaded s ≡ refused n q → loadedFrom s .end ≡ Stop n q
+pub refused-end : (s : List ℕ) (n q : ℕ) → loaded s ≡ refused n q → loadedFrom s .end ≡ Stop n q
 unfolding loaded loadedOf andThen
 refused-end s n q h = go (image s) h
   where

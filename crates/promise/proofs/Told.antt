@@ -2,27 +2,28 @@
 use Prim.Native.Nat.{ℕ}
 use native.Mathlib.Omega.{arith}
 use mathlib.Core.Path.{_≡_, refl, sym, ap, _∙_, subst}
-use mathlib.Core.List.{List, _++_}
+use mathlib.Core.List.{List, [], _∷_, _++_}
 use lib.ListN.{length}
 use Rattle.value.specs.Answer.{Answer, ok, refused, _>>=_}
 use Rattle.value.specs.Refusal.{frameGone}
 use Rattle.value.specs.Value.{IrType, kindOf, size}
 use Rattle.value.proofs.Truth.{is-true}
-use Rattle.image.specs.Program.{Program}
+use Rattle.image.specs.Program.{Program, Instruction}
 use Rattle.memory.specs.Memory.{Memory, readBytes, writeBytes}
 use Rattle.memory.specs.Tables.{State}
-use Rattle.machine.specs.Machine.{Machine, withMemory, hostRead, hostWrite}
+use Rattle.machine.specs.Machine.{Machine, pointerOf, valueOf, withMemory, hostRead, hostWrite}
 use Rattle.machine.specs.Believed.{believed}
 use Rattle.machine.specs.Sound.{sound}
-use Rattle.machine.specs.Asks.{Ask, toRead, toWrite, toStep, toList, done, refusal, changes, shows, ask, Turn}
+use Rattle.machine.specs.Asks.{Ask, toRead, toWrite, toStart, toStep, toList, done, refusal, changes, shows, ask, Turn}
 use Rattle.machine.specs.Entries.{enter}
-use Rattle.machine.specs.Demand.{Accepted, stateAfter, tells, reply, Why, AtRead, AtCopy, stepped}
+use Rattle.machine.specs.Demand.{Accepted, stateAfter, tells, reply, Why, AtRead, AtCopy, At, stepped}
 use Rattle.machine.specs.History.{madeAt, bytesFrom}
 use Rattle.machine.proofs.Demand.{always-sound, granted-exactly-when-right, bytes-are-last-stored, bytes-of-constants, refused-with-its-number, gone-exactly-when-ended, writes-stay-apart, listing-is-told, steps-granted-exactly-when-right, steps-read-last-stored, copies-refused, copies-last-stored, refused-ever-after}
+use Rattle.machine.proofs.Tells.{calls-begin, starts-make-slots, returns-end, writes-store, initializes-make}
 use Rattle.agree.specs.Seen.{seen, room}
-use Rattle.agree.proofs.Entries.{asked}
-use Rattle.promise.specs.Calls.{Call, callRead, callWrite, callStep, callList, call, shown, Good, Asks, reading, writing, stepping, listing}
-use Rattle.promise.specs.Promised.{After, Image, readOf, CodeGrantsExactlyWhenRight, CodeReadsLastStored, CodeReadsConstants, CodeRefusesWithItsNumber, CodeGoneExactlyWhenEnded, CodeWritesStayApart, CodeListsAsTold, stepOf, CodeStepsGrantExactlyWhenRight, CodeStepsReadLastStored, CodeCopiesRefused, CodeCopiesLastStored, CodeRefusesEverAfter}
+use Rattle.agree.proofs.Entries as Entries
+use Rattle.promise.specs.Calls.{Call, callRead, callWrite, callStep, callList, call, shown, Good, Asks, reading, writing, stepping, listing, Tells, asked, passed, leftBy}
+use Rattle.promise.specs.Promised.{After, Image, readOf, CodeGrantsExactlyWhenRight, CodeReadsLastStored, CodeReadsConstants, CodeRefusesWithItsNumber, CodeGoneExactlyWhenEnded, CodeWritesStayApart, CodeListsAsTold, stepOf, CodeStepsGrantExactlyWhenRight, CodeStepsReadLastStored, CodeCopiesRefused, CodeCopiesLastStored, CodeGoesOn, CodeCallsBegin, CodeStartsMakeSlots, CodeReturnsEnd, CodeWritesStore, CodeInitializesMake, CodeRefusesEverAfter}
 use Rattle.promise.proofs.Answers.{entries-answer}
 use Rattle.promise.proofs.Sequence.{fresh-follows, tells-accepted}
 
@@ -82,7 +83,7 @@ read-by S S′ P q n e = ap (λ (x : Answer (List ℕ)). shows S x .reply) e ∙
 
 -- on a good state 10 is not given
 ask-same : (c : Call) (a : Ask) → Asks c a → (u : State) → Good u → shown (call c u) ≡ ask believed a (seen u)
-ask-same c a x u g = entries-answer c a x u g .same ∙ asked u (g .sound) (g .bytes) a
+ask-same c a x u g = entries-answer c a x u g .same ∙ Entries.asked u (g .sound) (g .bytes) a
 
 pub code-writes-stay-apart : CodeWritesStayApart
 code-writes-stay-apart as′ t after p q f j o f′ j′ o′ bs b e at-p at-q apart s P i buffer =
@@ -138,6 +139,55 @@ code-copies-last-stored as′ t after s P i q p n f j o c at d =
     ap (λ (z : Machine Memory). writeBytes (z .memory) q bs) (fresh-follows as′ t after .0)
     ∙ copies-last-stored as′ (accepted as′ t after) P q p n f j o (at-copy as′ t after s P i c) at (sym (step-reply as′ t after s P i) ∙ d)
     ∙ ap (λ (z : Turn Memory). ok (z .machine .memory)) (sym (step-same as′ t after s P i))
+
+-- ---- what is done tells
+
+one-more : (cs : List Call) (as′ : List Ask) → Tells cs as′ → (c : Call) (a : Ask) → Asks c a → Tells (cs ++ (c ∷ [])) (as′ ++ (a ∷ []))
+one-more cs as′ Tells.no-more c a q = asked q Tells.no-more
+one-more cs as′ (asked {cs = rest} {as′ = more} x w) c a q = asked x (one-more rest more w c a q)
+one-more cs as′ (passed {cs = rest} x w) c a q = passed x (one-more rest as′ w c a q)
+
+left-one-more : (cs : List Call) (c : Call) (t : State) → leftBy (cs ++ (c ∷ [])) t ≡ call c (leftBy cs t) .left
+unfolding leftBy
+left-one-more [] c t = refl
+left-one-more (x ∷ cs) c t = left-one-more cs c (call x t .left)
+
+pub code-goes-on : CodeGoesOn
+code-goes-on as′ t after c a q = record {
+  first = after .first;
+  fresh = after .fresh;
+  calls = after .calls ++ (c ∷ []);
+  tell = one-more (after .calls) as′ (after .tell) c a q;
+  left = left-one-more (after .calls) c (after .first) ∙ ap (λ (u : State). call c u .left) (after .left);
+}
+
+module _ (as′ : List Ask) (t : State) (after : After as′ t) (s : List ℕ) (P : Program) (i : Image s P) where
+  at-instruction : (x : Instruction) → At (seen t) P x → At (stateAfter as′) P x
+  at-instruction x at = subst (λ (z : Machine Memory). At z P x) (fresh-follows as′ t after .0) at
+
+  step-done : stepOf t s .reply ≡ done → stepped as′ P .reply ≡ done
+  step-done d = sym (step-reply as′ t after s P i) ∙ d
+
+pub code-calls-begin : CodeCallsBegin
+code-calls-begin as′ t after s P i to context f arguments returnPointer at d =
+    calls-begin as′ (accepted as′ t after) P to context f arguments returnPointer (at-instruction as′ t after s P i _ at) (step-done as′ t after s P i d)
+
+pub code-starts-make-slots : CodeStartsMakeSlots
+code-starts-make-slots as′ t after c P f context gs q d = starts-make-slots as′ (accepted as′ t after) P f context gs (sym (reply-same as′ t after c (toStart P f context gs) q) ∙ d)
+
+pub code-returns-end : CodeReturnsEnd
+code-returns-end as′ t after s P i x at d = returns-end as′ (accepted as′ t after) P x (at-instruction as′ t after s P i _ at) (step-done as′ t after s P i d)
+
+pub code-writes-store : CodeWritesStore
+code-writes-store as′ t after s P i x y p f j o v at through what place d =
+    let same = fresh-follows as′ t after .0 in
+    writes-store as′ (accepted as′ t after) P x y p f j o v (at-instruction as′ t after s P i _ at)
+    (ap (λ (z : Machine Memory). pointerOf (z .vars) x) (sym same) ∙ through) (ap (λ (z : Machine Memory). valueOf (z .vars) y) (sym same) ∙ what) place (step-done as′ t after s P i d)
+
+pub code-initializes-make : CodeInitializesMake
+code-initializes-make as′ t after s P i to n bs at d =
+    let x = initializes-make as′ (accepted as′ t after) P to n bs (at-instruction as′ t after s P i _ at) (step-done as′ t after s P i d) in
+    (x .0, ap (λ (z : Turn Memory). z .machine .vars to) (step-same as′ t after s P i) ∙ x .1)
 
 -- a write that the memory refuses is refused by the entry
 write-refused : (as′ : List Ask) → Accepted as′ → (p k : ℕ) (bs : List ℕ) → writeBytes (stateAfter as′ .memory) p bs ≡ refused k → enter (toWrite p bs) (stateAfter as′) .reply ≡ refusal k

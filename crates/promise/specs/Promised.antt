@@ -1,27 +1,29 @@
 -- What is promised of the compiled entries: seen through their tables they are the believed machine's, whoever calls them and in whatever order.
 use Prim.Native.Nat.{ℕ, _+_, _≤_, _<_}
-use mathlib.Core.Bool.{false}
+use mathlib.Core.Bool.{true, false}
 use mathlib.Core.Logic.{_≢_, _⊎_, _↔_}
 use mathlib.Core.Path.{_≡_}
-use mathlib.Core.List.{List, [], _++_}
-use mathlib.Core.Option.{some}
+use mathlib.Core.List.{List, [], _∷_, _++_}
+use mathlib.Core.Option.{Option, some}
 use lib.ListN.{length, getD, take}
 use Rattle.value.specs.Refusal.{notSound, frameGone, notBool}
 use Rattle.value.specs.Answer.{ok}
-use Rattle.value.specs.Value.{Value, IrType, kindOf, size, fromBytes}
+use Rattle.value.specs.Value.{Value, value, pointer, IrType, kindOf, size, bytesOf, fromBytes}
 use Rattle.image.specs.Parse.{took}
-use Rattle.image.specs.Program.{Program}
+use Rattle.image.specs.Program.{Program, Operand, Declared, functionAt, Call as Calls, Return, Initialize, Write}
 use Rattle.image.specs.Image.{loaded}
 use Rattle.memory.specs.Tables.{State, state, tables, registers, columns, frameWord, bound, readAccessOf, freshOf, soundOf}
+use Rattle.memory.specs.Encoded.{wellEncoded}
 use Rattle.memory.specs.Memory.{writeBytes}
 use Rattle.memory.specs.declared.Source.the-variants.{Local}
-use Rattle.machine.specs.Asks.{Ask, Reply, done, bytes, lists, refusal, replies}
+use Rattle.machine.specs.Asks.{Ask, toStart, toStep, Reply, done, bytes, lists, refusal, replies}
+use Rattle.machine.specs.Machine.{pointerOf, valueOf}
 use Rattle.machine.specs.Machine as Machine
 use Rattle.machine.specs.Recalled.{recalled}
 use Rattle.machine.specs.Entries.{enter, answers, onwards}
 use Rattle.machine.specs.History.{History, ofConstant, ofPlace, madeAt, bytesFrom, StandsFor, Ended, toldList}
 use Rattle.machine.specs.Flat.{indexOf, placeOf}
-use Rattle.machine.specs.Demand.{tells, stateAfter, Right, Why, Alive, AtRead, AtCopy}
+use Rattle.machine.specs.Demand.{tells, stateAfter, Right, Why, Alive, AtRead, AtCopy, At, tellsWith, Begins, StartsIn, Ends, Stores, Makes}
 use Rattle.eval.specs.Host.{hostListed}
 use Rattle.eval.specs.Entry.{readEntered}
 use Rattle.agree.specs.Seen.{seen, room}
@@ -45,6 +47,10 @@ ImagesRefused = (c : Call) (n : ℕ) → Refuses c n → (t : State) → call c 
 -- "10 state not sound", and nothing changes
 abbrev pub UnsoundRefused : Type 0
 UnsoundRefused = (c : Call) (a : Ask) → Asks c a → (t : State) → soundOf t ≡ false → call c t ≡ heard (refusal notSound) t
+
+-- so a call on any state that is well encoded, sound or not, is what the machine makes of the ask
+abbrev pub EncodedAnswer : Type 0
+EncodedAnswer = (c : Call) (a : Ask) → Asks c a → (t : State) → wellEncoded t ≡ true → AreBytes (t .memory .store) → shown (call c t) ≡ enter a (seen t)
 
 -- "A refusal leaves state and lent buffers untouched": each element of each table, stale ones too
 abbrev pub RefusalsChangeNothing : Type 0
@@ -118,7 +124,7 @@ abbrev pub CodeGrantsExactlyWhenRight : Type 0
 CodeGrantsExactlyWhenRight = (as′ : List Ask) (t : State) → After as′ t → (s : List ℕ) (P : Program) → Image s P → (p : ℕ) (buffer : List ℕ)
     → ((bs : List ℕ) × (readOf t s p buffer ≡ bytes bs)) ↔ Right (tells as′) P p (length buffer)
 
--- 2. "each byte granted is the one last stored there, or zero"
+-- 2. "Each byte granted is the one last stored at that place of that allocation, or zero."
 abbrev pub CodeReadsLastStored : Type 0
 CodeReadsLastStored = (as′ : List Ask) (t : State) → After as′ t → (s : List ℕ) (P : Program) → Image s P → (p : ℕ) (buffer : List ℕ) (f j o : ℕ) (bs : List ℕ)
     → StandsFor (tells as′) p (ofPlace f j o) → readOf t s p buffer ≡ bytes bs
@@ -207,6 +213,34 @@ abbrev pub CodeCopiesLastStored : Type 0
 CodeCopiesLastStored = (as′ : List Ask) (t : State) → After as′ t → (s : List ℕ) (P : Program) → Image s P → (q p n f j o : ℕ) → AtCopy (seen t) P q p n
     → StandsFor (tells as′) p (ofPlace f j o) → stepOf t s .reply ≡ done
     → writeBytes (seen t .memory) q (bytesFrom (madeAt (tells as′ .made) f j) o n) ≡ ok (seen (stepOf t s .left) .memory)
+
+-- 7. what is done tells, and the state left is one after it: "an accepted Call begins a frame, the accepted Return that pops it ends it"
+
+abbrev pub CodeGoesOn : Type 0
+CodeGoesOn = (as′ : List Ask) (t : State) → After as′ t → (c : Call) (a : Ask) → Asks c a → After (as′ ++ (a ∷ [])) (call c t .left)
+
+abbrev pub CodeCallsBegin : Type 0
+CodeCallsBegin = (as′ : List Ask) (t : State) → After as′ t → (s : List ℕ) (P : Program) → Image s P
+    → (to : Option Declared) (context : Option Operand) (f : ℕ) (arguments : List Operand) (returnPointer : Option ℕ)
+    → At (seen t) P (Calls to context f arguments returnPointer) → stepOf t s .reply ≡ done → Begins (tells as′) (tellsWith as′ (toStep P)) (functionAt P f .slots)
+
+abbrev pub CodeStartsMakeSlots : Type 0
+CodeStartsMakeSlots = (as′ : List Ask) (t : State) → After as′ t → (c : Call) (P : Program) (f : ℕ) (context : Value) (gs : List Value) → Asks c (toStart P f context gs)
+    → call c t .reply ≡ done → StartsIn (tells as′) (tellsWith as′ (toStart P f context gs)) (functionAt P f .slots)
+
+abbrev pub CodeReturnsEnd : Type 0
+CodeReturnsEnd = (as′ : List Ask) (t : State) → After as′ t → (s : List ℕ) (P : Program) → Image s P → (x : Option Operand) → At (seen t) P (Return x) → stepOf t s .reply ≡ done
+    → Ends (tells as′) (tellsWith as′ (toStep P))
+
+-- 8. a Write stores its value's bytes, and Initialize its own, with zeros after them
+abbrev pub CodeWritesStore : Type 0
+CodeWritesStore = (as′ : List Ask) (t : State) → After as′ t → (s : List ℕ) (P : Program) → Image s P → (x y : Operand) (p f j o : ℕ) (v : Value) → At (seen t) P (Write x y)
+    → pointerOf (seen t .vars) x ≡ ok p → valueOf (seen t .vars) y ≡ ok v → StandsFor (tells as′) p (ofPlace f j o) → stepOf t s .reply ≡ done
+    → Stores (tells as′) (tellsWith as′ (toStep P)) f j o (bytesOf v)
+
+abbrev pub CodeInitializesMake : Type 0
+CodeInitializesMake = (as′ : List Ask) (t : State) → After as′ t → (s : List ℕ) (P : Program) → Image s P → (to n : ℕ) (bs : List ℕ) → At (seen t) P (Initialize to n bs)
+    → stepOf t s .reply ≡ done → Makes (tells as′) (tellsWith as′ (toStep P)) n bs × (seen (stepOf t s .left) .vars to ≡ some (value pointer (length (tells as′ .given))))
 
 -- A pointer made in a call is refused in every later state after that call has returned: p is given for a place of the frame f, f has ended some asks later,
 -- and after any more asks every host read and write through p is 27, and so is a step's Read through it and a Copy from it.
