@@ -1,0 +1,5 @@
+pub mod Words
+pub mod Functions
+pub mod Sequence
+pub mod Granted
+pub mod First
