@@ -60,25 +60,25 @@ def library():
     return LIBRARY
 
 
-def emulated(source, archive, program):
+def emulated(source, archives, program):
     """A C file compiled and linked for x86-64 on another processor by the kit's own compiler: the words that run it."""
     own = kit()[1]
     tools, made = os.path.join(own, "toolchain"), program + ".o"
     asked = [subprocess.run(["cc", question], capture_output=True, text=True, check=True).stdout.strip() for question in ("-print-file-name=include", "-print-multiarch")]
     headers = [word for folder in (asked[0], f"/usr/include/{asked[1]}", "/usr/include") for word in ("-isystem", folder)]
     subprocess.run([os.path.join(tools, "bin", "clang"), "--target=x86_64-linux-gnu", *headers, *OPTIONS, "-c", "-o", made, source], check=True)
-    subprocess.run([os.path.join(own, "bin", "rattle-link"), "--target", "x86_64-unknown-linux-gnu", "--toolchain", tools, "-o", program, made, archive],
+    subprocess.run([os.path.join(own, "bin", "rattle-link"), "--target", "x86_64-unknown-linux-gnu", "--toolchain", tools, "-o", program, made, *archives],
                    check=True, stderr=subprocess.DEVNULL)
     loader = os.path.join(tools, "lib", "ld-linux-x86-64.so.2")
     return [os.path.join(tools, "bin", "qemu-x86_64"), "-cpu", PROCESSOR, loader, "--library-path", os.path.join(tools, "lib"), program]
 
 
-def linked(source, archive, program):
-    """A C file linked with an archive: the words that run it."""
+def linked(source, archive, program, *more):
+    """A C file linked with an archive, or more of them: the words that run it."""
     os.makedirs(os.path.dirname(program), exist_ok=True)
     if platform.machine() != "x86_64":
-        return emulated(source, archive, program)
-    subprocess.run(["cc", *OPTIONS, "-o", program, source, archive], check=True)
+        return emulated(source, (archive, *more), program)
+    subprocess.run(["cc", *OPTIONS, "-o", program, source, archive, *more], check=True)
     return [program]
 
 

@@ -2,7 +2,15 @@
 
 import os
 
-LISTS = ("programs.txt", "entries.txt")
+import values
+
+HERE = os.path.dirname(os.path.abspath(__file__))
+LISTS = ("programs.txt", "entries.txt", *values.LISTS)
+
+
+def lines_of(name):
+    with open(os.path.join(HERE, name), encoding="ascii") as listed:
+        return listed.read().splitlines()
 
 
 def records(lines):
@@ -19,5 +27,9 @@ def records(lines):
 
 def stored(name):
     """The records of a list, each with its case first."""
-    with open(os.path.join(os.path.dirname(os.path.abspath(__file__)), name), encoding="ascii") as listed:
-        return list(records(listed.read().splitlines()))
+    return values.records(name) if name in values.LISTS else list(records(lines_of(name)))
+
+
+def orders():
+    """The console lines of orders.in, and their answers in orders.out."""
+    return lines_of("orders.in"), lines_of("orders.out")

@@ -276,6 +276,14 @@ def sweep_switches():
                     yield f"{whole} {started(value)}"
 
 
+def sweep_kept():
+    """Each value of each type written and read back, every NaN among them."""
+    for kind in TYPES:
+        for bits in edges(kind):
+            yield f"{simple([(INITIALIZE, 5, 8, b''), (WRITE, (0, 5), (kind, bits)), (READ, TO, (0, 5), kind), BACK], 0)} {started()}"
+
+
 def sweep():
-    for group in (sweep_named, sweep_calls, sweep_starts, sweep_limits, sweep_pointers, sweep_unary, sweep_memory, sweep_floats, sweep_binary, sweep_switches):
+    for group in (sweep_named, sweep_calls, sweep_starts, sweep_limits, sweep_pointers, sweep_unary, sweep_memory, sweep_floats, sweep_binary, sweep_switches,
+                  sweep_kept):
         yield from group()

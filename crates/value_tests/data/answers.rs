@@ -1,5 +1,5 @@
 // Prints what value_tests must print, by Rust's own operators: `stdout` is this program's output.
-//   in crates/value_tests: rustc --edition 2021 -C overflow-checks=on -o ../../target/answers data/answers.rs, then ../../target/answers data/floats.txt > stdout
+//   in crates/value_tests: rustc --edition 2021 -C overflow-checks=on -o ../../target/answers data/answers.rs, then ../../target/answers data > stdout
 // The operators themselves run, and a panic is the refusal that stands for it: 24 for a divisor of zero, 23 for an overflow.
 
 use std::fmt::Write;
@@ -224,11 +224,21 @@ fn floats(path: &str) -> (u64, u64) {
     (right, lines)
 }
 
+// The lines of a list that the published Rust answered: every one is right.
+fn listed(path: &str) -> usize {
+    std::fs::read_to_string(path).unwrap().lines().count()
+}
+
 fn main() {
     set_hook(Box::new(|_| {}));
     let mut out = String::new();
-    let (right, lines) = floats(&std::env::args().nth(1).unwrap());
+    let data = std::env::args().nth(1).unwrap();
+    let (right, lines) = floats(&format!("{data}/floats.txt"));
     writeln!(out, "float vectors {right} right of {lines}").unwrap();
+    for list in ["kinds", "rounding"] {
+        let lines = listed(&format!("{data}/{list}.txt"));
+        writeln!(out, "{list} {lines} right of {lines}").unwrap();
+    }
     for op in 0..6 {
         for tag in [2, 6] {
             let h = (0..65536).fold(0, |h, n| pair(h, op, tag, n / 256, n % 256));

@@ -9,6 +9,7 @@ use operations::integer::negate;
 use operations::integer::rem;
 use operations::integer::sub;
 use value::Computed;
+use value::IrType;
 use value::IrValue;
 use value::Made;
 
@@ -82,8 +83,8 @@ fn print_ends(operation: u64, tag: u64) {
 fn print_all_whole() {
     let mut operation = 0u64;
     while operation < 6 {
-        print_whole(operation, 2);
-        print_whole(operation, 6);
+        print_whole(operation, IrType::U8_TAG);
+        print_whole(operation, IrType::I8_TAG);
         operation += 1;
     }
 }

@@ -84,8 +84,8 @@ fn truths() -> u64 {
 }
 
 pub fn run() {
-    let mut tag = 1u64;
-    while tag < 15 {
+    let mut tag = IrType::BOOL_TAG;
+    while tag <= IrType::POINTER_TAG {
         say::text(b"bytes of tag ");
         say::number(tag);
         say::digest(kind(tag));

@@ -1,11 +1,13 @@
 // Edge values: of each kind the bits near its ends and its middle, and every class of NaN.
+use value::IrType;
+use value::IrValue;
 
 // The largest bits of an integer's kind, by its tag.
 pub fn top(tag: u64) -> u64 {
     match tag {
-        2 | 6 => 0xff,
-        3 | 7 => 0xffff,
-        4 | 8 | 13 => 0xffff_ffff,
+        IrType::U8_TAG | IrType::I8_TAG => 0xff,
+        IrType::U16_TAG | IrType::I16_TAG => 0xffff,
+        IrType::U32_TAG | IrType::I32_TAG | IrValue::ASN_TAG => 0xffff_ffff,
         _ => 0xffff_ffff_ffff_ffff,
     }
 }
@@ -13,9 +15,9 @@ pub fn top(tag: u64) -> u64 {
 // A power of 2 whose square no kind of that width holds.
 fn root(tag: u64) -> u64 {
     match tag {
-        2 | 6 => 0x10,
-        3 | 7 => 0x100,
-        4 | 8 | 13 => 0x1_0000,
+        IrType::U8_TAG | IrType::I8_TAG => 0x10,
+        IrType::U16_TAG | IrType::I16_TAG => 0x100,
+        IrType::U32_TAG | IrType::I32_TAG | IrValue::ASN_TAG => 0x1_0000,
         _ => 0x1_0000_0000,
     }
 }
@@ -108,10 +110,10 @@ fn scalar(i: u64) -> u64 {
 // The i-th edge of the kind with this tag.
 pub fn bits(tag: u64, i: u64) -> u64 {
     match tag {
-        1 => i,
-        10 => single(i),
-        11 => double(i),
-        12 => scalar(i),
+        IrType::BOOL_TAG => i,
+        IrType::F32_TAG => single(i),
+        IrType::F64_TAG => double(i),
+        IrValue::CHAR_TAG => scalar(i),
         _ => integer(tag, i),
     }
 }

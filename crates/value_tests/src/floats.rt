@@ -1,5 +1,5 @@
-// The float vectors: a line is an operation, a width, the operands and the answer, in hex; `nan` is the canonical NaN.
-use crate::say;
+// The published float vectors: a line is an operation, a width, the operands and the answer; `nan` is the canonical NaN.
+use crate::line::Line;
 use comparing::compare::float_cmp;
 use operations::float::fdiv;
 use operations::integer::negate;
@@ -8,86 +8,6 @@ use value::FloatCmp;
 use value::IrType;
 use value::IrValue;
 use value::Made;
-
-// What is read of a line: the field that it is in, and the fields so far.
-pub struct Line {
-    pub field: u64,
-    pub operation: u64,
-    pub width: u64,
-    pub first: u64,
-    pub second: u64,
-    pub third: u64,
-    pub nan: bool,
-}
-
-fn fresh() -> Line {
-    Line {
-        field: 0,
-        operation: 0,
-        width: 0,
-        first: 0,
-        second: 0,
-        third: 0,
-        nan: false,
-    }
-}
-
-fn wide(byte: u8) -> u64 {
-    byte as u64
-}
-
-// A hex digit's worth; 16 for what is none.
-fn digit(byte: u8) -> u64 {
-    if byte < b'0' {
-        return 16;
-    }
-    if byte <= b'9' {
-        return wide(byte - b'0');
-    }
-    if byte < b'a' {
-        return 16;
-    }
-    if byte <= b'f' {
-        return wide(byte - b'a' + 10);
-    }
-    16
-}
-
-fn longer(n: u64, worth: u64) -> u64 {
-    (n % 0x1000_0000_0000_0000) * 16 + worth % 16
-}
-
-// One more byte of the line.
-fn next(line: Line, byte: u8) -> Line {
-    let mut l = line;
-    if byte == b' ' {
-        l.field = l.field % 8 + 1;
-        return l;
-    }
-    let worth = digit(byte);
-    let field = l.field;
-    match field {
-        0 => {
-            l.operation = (l.operation % 0x10_0000) * 256 + wide(byte) % 256;
-        }
-        1 => {
-            l.width = longer(l.width, worth);
-        }
-        2 => {
-            l.first = longer(l.first, worth);
-        }
-        3 => {
-            l.second = longer(l.second, worth);
-        }
-        _ => {
-            l.third = longer(l.third, worth);
-            if worth == 16 {
-                l.nan = true;
-            }
-        }
-    }
-    l
-}
 
 // The operations' names, as the line's letters make them.
 const DIV: u64 = 0x64_6976;
@@ -130,35 +50,35 @@ fn tag(width: u64) -> u64 {
 
 // The tag and bits that the line gives as the answer.
 fn expected_tag(line: Line) -> u64 {
-    let operation = line.operation;
+    let operation = line.name;
     match operation {
-        DIV | NEG => tag(line.width),
+        DIV | NEG => tag(line.second),
         _ => IrType::BOOL_TAG,
     }
 }
 
 fn expected_bits(line: Line) -> u64 {
-    if line.operation == NEG {
-        return line.second;
+    if line.name == NEG {
+        return line.fourth;
     }
-    if line.nan {
-        if line.width == 0x32 {
+    if line.odd {
+        if line.second == 0x32 {
             return 0x7fc0_0000;
         }
         return 0x7ff8_0000_0000_0000;
     }
-    line.third
+    line.fifth
 }
 
 // Whether the line's answer is ours.
-fn agrees(line: Line) -> bool {
-    let Made::Value(x) = IrValue::from_bits(tag(line.width), line.first) else {
+pub fn agrees(line: Line) -> bool {
+    let Made::Value(x) = IrValue::from_bits(tag(line.second), line.third) else {
         return false;
     };
-    let Made::Value(y) = IrValue::from_bits(tag(line.width), line.second) else {
+    let Made::Value(y) = IrValue::from_bits(tag(line.second), line.fourth) else {
         return false;
     };
-    let Computed::Value(v) = compute(line.operation, x, y) else {
+    let Computed::Value(v) = compute(line.name, x, y) else {
         return false;
     };
     if v.tag() == expected_tag(line) {
@@ -166,60 +86,4 @@ fn agrees(line: Line) -> bool {
     } else {
         false
     }
-}
-
-// A wrong line is printed by its number.
-fn judged(line: Line, number: u64) -> u64 {
-    if agrees(line) {
-        return 1;
-    }
-    say::text(b"wrong: line ");
-    say::number(number);
-    say::text(b"\n");
-    0
-}
-
-// How many of the lines agree.
-fn count(s: &[u8]) {
-    let mut line = fresh();
-    let mut lines = 0u64;
-    let mut right = 0u64;
-    let mut i = 0usize;
-    while i < s.len() {
-        if s[i] == b'\n' {
-            lines = std::num::wrapping_add_u64(lines, 1);
-            right = std::num::wrapping_add_u64(right, judged(line, lines));
-            line = fresh();
-        } else {
-            line = next(line, s[i]);
-        }
-        i += 1;
-    }
-    say::text(b"float vectors ");
-    say::number(right);
-    say::text(b" right of ");
-    say::number(lines);
-    say::text(b"\n");
-}
-
-fn read(fd: i32, text: &mut [u8]) {
-    let n = io::read_full(fd, text);
-    count(&text[..n]);
-}
-
-fn load(fd: i32, text: &mut [u8; 200000]) {
-    read(fd, text);
-}
-
-pub fn run() {
-    let mut path = io::buffer();
-    let length = os::arg(1, &mut path);
-    let fd = os::open_read(&path[..length]);
-    if fd < 0 {
-        os::fail(&path[..length]);
-        return;
-    }
-    let mut text = [0u8; 200000];
-    load(fd, &mut text);
-    libc::close(fd);
 }

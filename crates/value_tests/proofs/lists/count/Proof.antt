@@ -2,14 +2,14 @@
 use Prim.Native.Nat.{_-_}
 use lib.ListN.{length}
 use borrow.Author.Needs.{needs}
-use Rattle.value_tests.proofs.floats.count.Statement.{statement}
-use Rattle.value_tests.proofs.floats.count.Tie as tie
+use Rattle.value_tests.proofs.lists.count.Statement.{statement}
+use Rattle.value_tests.proofs.lists.count.Tie as tie
 
 abbrev Inv-loop : tie.InvT-loop
-Inv-loop s line₀ lines₀ right₀ i₀ t6 t7 t8 line lines right i = Unit {0}
+Inv-loop list s line₀ lines₀ right₀ i₀ t7 t8 line lines right i = Unit {0}
 
 abbrev μ-loop : tie.MeasureT-loop
-μ-loop s line₀ lines₀ right₀ i₀ t6 t7 t8 line lines right i = length s - i
+μ-loop list s line₀ lines₀ right₀ i₀ t7 t8 line lines right i = length s - i
 
 pub count-spec : {M : Type 1} → statement M
 count-spec =
@@ -26,7 +26,6 @@ count-spec =
     (λ c κs. search needs)
     (λ c. search needs)
     (λ c κs. search needs)
-    (λ c. search needs)
     (λ c. search needs)
     (λ c. search needs)
     (λ c. search needs)
