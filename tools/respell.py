@@ -54,6 +54,17 @@ def collect():
     return names, facts, words
 
 
+def borrowed():
+    """The names that some file takes from the library: they stay."""
+    names = set()
+    for path in antt_files():
+        text = open(path, encoding="utf-8").read()
+        for module, listed in re.findall(r"^use ([^\s{]+)\.\{([^}]*)\}", text, re.M):
+            if not re.match(r"Rattle\.(?!std\.)", module):
+                names.update(n.split(" as ")[0].strip() for n in listed.split(","))
+    return names
+
+
 def spelling(name, facts, spelt):
     if name in facts and name[0].islower() or "-" in name and name[0].isupper():
         return "".join(p[:1].upper() + p[1:] for p in re.split(r"[-_]", snake(name)))
@@ -69,7 +80,7 @@ def table():
     names, facts, words = collect()
     spelt = {snake(w) for w in words} | LIBRARY
     new, olds = {}, {}
-    for n in sorted(names):
+    for n in sorted(names - borrowed()):
         if re.match(r"^[A-Za-z]", n):
             new[n] = spelling(n, facts, spelt)
             olds.setdefault(new[n], []).append(n)

@@ -6,7 +6,7 @@ use mathlib.Core.List.{List, [], ◌∷◌, ◌++◌, append_assoc}
 use mathlib.Core.Option.{some}
 use lib.ListN.{length, replicate, length-replicate}
 use lib.Dec.{T}
-use borrow.Author.Tests.{eq_eqb}
+use borrow.Author.Tests.{eq-eqb}
 use Rattle.value.specs.Answer.{Answer, ok, refused, ◌>>=◌}
 use Rattle.value.specs.Value.{Value, IrType, Boolean, U8, U16, U32, U64, I8, I16, I32, I64, F32, F64, Pointer, kind_of, size, bytes_of, from_bytes}
 use Rattle.value.specs.Tags.{type_at, type_of_kind, typed}
@@ -88,7 +88,7 @@ module _ (s : State) (st : Steady s) (room : s.memory.registers.next < 4096) whe
   unfolding ◌>>=◌
   put_agrees outcome.Done store x e so bytes left =
       rw (sym e)
-      (record { same = went-same refl (eq_eqb _ 1 st.running) refl refl; kept = runs _ _ (so refl) st.variables st.running (omega arith) bytes })
+      (record { same = went-same refl (eq-eqb _ 1 st.running) refl refl; kept = runs _ _ (so refl) st.variables st.running (omega arith) bytes })
   put_agrees (outcome.Refused n) store x e so bytes left = rw (sym e) (refusal (ap (with_store_lem s) (left n refl)))
 
   -- bytes through pointer p

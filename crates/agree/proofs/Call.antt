@@ -5,7 +5,7 @@ use mathlib.Core.Path.{◌≡◌, refl, subst}
 use mathlib.Core.List.{List, [], ◌∷◌, ◌++◌}
 use mathlib.Core.Option.{Option, none, some}
 use lib.ListN.{length, get_or}
-use borrow.Author.Tests.{lt-ltb, eq_eqb}
+use borrow.Author.Tests.{lt-ltb, eq-eqb}
 use Rattle.value.specs.Answer.{Answer}
 use Rattle.image.specs.Program.{Program, Operand, Slot, Declared, Function, function_at, Call}
 use Rattle.image.specs.Limits.{Each, IfAny, IsVariable, IsOperand, IsDeclared, IsSlot, IsFunctionItem, IsInstruction, counts_of}
@@ -79,7 +79,7 @@ module _ (s : State) (st : Steady s) (room : s.memory.registers.next < 4096) whe
   as_step_lem : {r : Code.Stepped} {x : Answer (Stepped Memory)} → CallAgrees (ahead s) s.variables r x → StepAgrees s r x
   as_step_lem (call-refused n) = refusal refl
   as_step_lem (call-went t vars so good running place bytes) = record {
-    same = went-same refl (eq_eqb _ 1 running) refl refl;
+    same = went-same refl (eq-eqb _ 1 running) refl refl;
     kept = runs t vars so good running place (bytes st.bytes);
   }
 

@@ -4,7 +4,7 @@ use native.Mathlib.Omega.{arith}
 use mathlib.Core.Bool.{Bool}
 use mathlib.Core.Path.{◌≡◌, refl}
 use mathlib.Core.List.{List}
-use borrow.Author.Tests.{eq_eqb}
+use borrow.Author.Tests.{eq-eqb}
 use Rattle.value.specs.Answer.{Answer, ok, refused, ◌>>=◌}
 use Rattle.value.specs.Value.{Value}
 use Rattle.value.proofs.Tags.{tag-some}
@@ -51,7 +51,7 @@ module _ (s : State) (st : Steady s) (room : s.memory.registers.next < 4096) whe
   finish_agrees to l (ok v) (kept g) =
       rw (tag-some v.kind)
       (record {
-        same = went-same (moved-seen s.memory _ _) (eq_eqb _ 1 st.running) refl (variable-set s.variables st.variables to l v);
+        same = went-same (moved-seen s.memory _ _) (eq-eqb _ 1 st.running) refl (variable-set s.variables st.variables to l v);
         kept = runs _ _ (moved-sound s.memory _ _ st.memory) (variables-kept s.variables st.variables to l v g) st.running (omega arith) st.bytes;
       })
   finish_agrees to l (refused n) no_answer = refusal refl

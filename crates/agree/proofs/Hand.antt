@@ -6,7 +6,7 @@ use mathlib.Core.Path.{◌≡◌, refl, sym, ap, ◌∙◌}
 use mathlib.Core.List.{List, [], ◌∷◌, ◌++◌}
 use lib.ListN.{length}
 use lib.Dec.{ltb, leb, eqb}
-use borrow.Author.Tests.{eq_eqb}
+use borrow.Author.Tests.{eq-eqb}
 use Rattle.value.specs.Answer.{Answer, pick, ◌>>=◌}
 use Rattle.value.specs.Value.{value, pointer}
 use Rattle.image.specs.Program.{Program, Operand, ConstantAddress, Offset}
@@ -17,7 +17,7 @@ use Rattle.memory.specs.Tables.{Tables, Both, both, tables, State, state, more, 
 use Rattle.memory.specs.View.{view, variables_in, on_given, after_pointer}
 use Rattle.memory.specs.declared.Registers.{Registers}
 use Rattle.memory.specs.declared.Given.{Given}
-use Rattle.memory.specs.declared.Given.TheVariants as goal
+use Rattle.memory.specs.declared.Given.TheVariants as given
 use Rattle.memory.proofs.Facts.{Sound}
 use Rattle.memory.proofs.Pointers.{count-seen, address-view, address-sound, offset-view, offset-sound}
 use Rattle.machine.specs.Machine.{Stepped, set_to, value_of, pointer_of, points, execute}
@@ -38,8 +38,8 @@ use Rattle.image.specs.Limits.{AreBytes}
 
 -- what is handed out is the next number, and the count of pointers rises; else nothing
 pub data Hands (m : Registers) : Given → Type 0 where
-  hands : Hands m (goal.Made m.pointers (more m))
-  withholds : {n : ℕ} → Hands m (goal.Refused n)
+  hands : Hands m (given.Made m.pointers (more m))
+  withholds : {n : ℕ} → Hands m (given.Refused n)
 
 -- the tables as an instruction is given them
 abbrev pub ahead : State → Tables
@@ -52,15 +52,15 @@ module _ (s : State) (st : Steady s) (room : s.memory.registers.next < 4096) whe
 
   -- where a memory's answer is the believed one, its tables are sound, and a refusal leaves them as they stood
   pub point_agrees : (to : ℕ) → to < 256 → (a : Given) (store frames bounds pointers : List ℕ) → Hands (onward s) a → (x : Answer Memory)
-      → on_given a (λ m. view (tables m store frames bounds pointers)) ≡ x → ((p : ℕ) (m : Registers) → a ≡ goal.Made p m → Sound (tables m store frames bounds pointers))
-      → AreBytes store → ((n : ℕ) → a ≡ goal.Refused n → tables (onward s) store frames bounds pointers ≡ ahead s)
+      → on_given a (λ m. view (tables m store frames bounds pointers)) ≡ x → ((p : ℕ) (m : Registers) → a ≡ given.Made p m → Sound (tables m store frames bounds pointers))
+      → AreBytes store → ((n : ℕ) → a ≡ given.Refused n → tables (onward s) store frames bounds pointers ≡ ahead s)
       → Agrees s (pointed_of a s.variables to).answer (λ m. state (tables m store frames bounds pointers) (pointed_of a s.variables to).table) (x >>= λ m. points believed (seen s) to m)
   unfolding ◌>>=◌
   point_agrees to l _ store frames bounds pointers hands x e so bytes left =
       rw (sym e)
       (record {
         same =
-            went-same refl (eq_eqb _ 1 st.running) refl
+            went-same refl (eq-eqb _ 1 st.running) refl
             (variable-set s.variables st.variables to l (value pointer s.memory.registers.pointers)
             ∙ ap (λ n. set_to (variables_in s.variables) to (value pointer n)) (sym (count-seen s.memory st.memory)));
         kept =
@@ -74,19 +74,19 @@ module _ (s : State) (st : Steady s) (room : s.memory.registers.next < 4096) whe
 -- a table of pointers, where nothing is handed out, is as it was
 record Handing (m : Registers) (l : List ℕ) (b : Both Given) : Type 0 where
   hand : Hands m b.answer
-  left : (n : ℕ) → b.answer ≡ goal.Refused n → b.table ≡ l
+  left : (n : ℕ) → b.answer ≡ given.Refused n → b.table ≡ l
 
 either : {m : Registers} {l : List ℕ} (t : Bool) {x y : Both Given} → Handing m l x → Handing m l y → Handing m l (pick t x y)
 either true x y = x
 either false x y = y
 
-no_hand : {m : Registers} {l : List ℕ} {n : ℕ} → Handing m l (both (goal.Refused n) l)
+no_hand : {m : Registers} {l : List ℕ} {n : ℕ} → Handing m l (both (given.Refused n) l)
 no_hand = record { hand = withholds; left = λ n e. refl }
 
-pub never_refused : {p n : ℕ} {m : Registers} → goal.Made p m ≡ goal.Refused n → ⊥
+pub never_refused : {p n : ℕ} {m : Registers} → given.Made p m ≡ given.Refused n → ⊥
 never_refused e = let z : ◌≡◌ {A = ℕ} 0 1 = cc in omega arith
 
-new_hand : {m : Registers} {l l' : List ℕ} → Handing m l (both (goal.Made m.pointers (more m)) l')
+new_hand : {m : Registers} {l l' : List ℕ} → Handing m l (both (given.Made m.pointers (more m)) l')
 new_hand = record { hand = hands; left = λ n e. absurd (never_refused e) }
 
 address_hands : (m : Registers) (k : ℕ) (l : List ℕ) → Handing m l (address_of m k l)

@@ -18,7 +18,7 @@ use Rattle.memory.specs.Tables.{Tables, tables, both, out, State, state, allocat
 use Rattle.memory.specs.View.{view, on_given, on_outcome, after_allocate, after_write, after_read}
 use Rattle.memory.specs.declared.Registers.{Registers}
 use Rattle.memory.specs.declared.Given.{Given}
-use Rattle.memory.specs.declared.Given.TheVariants as goal
+use Rattle.memory.specs.declared.Given.TheVariants as given
 use Rattle.memory.specs.declared.Outcome.{Outcome}
 use Rattle.memory.specs.declared.Outcome.TheVariants as outcome
 use Rattle.memory.proofs.Every.{by_test}
@@ -136,7 +136,7 @@ module _ (t : State) (so : sound_of t ≡ true) (bytes : AreBytes t.memory.store
   -- ---- the state after is sound again, and its store made of bytes
 
   allocated-kept : (a : Given) (store frames bounds pointers : List ℕ) → Hands t.memory.registers a → Left t.memory (out a store frames bounds pointers)
-      → ((p : ℕ) (m : Registers) → a ≡ goal.Made p m → Sound (tables m store frames bounds pointers)) → sound_of (allocated_state t (out a store frames bounds pointers)) ≡ true
+      → ((p : ℕ) (m : Registers) → a ≡ given.Made p m → Sound (tables m store frames bounds pointers)) → sound_of (allocated_state t (out a store frames bounds pointers)) ≡ true
   allocated-kept _ store frames bounds pointers hands left sound = again_sound t so _ (sound _ _ refl) refl refl refl
   allocated-kept _ store frames bounds pointers (withholds {n}) left sound = rw (left n refl) so
 

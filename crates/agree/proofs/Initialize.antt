@@ -6,7 +6,7 @@ use mathlib.Core.Path.{◌≡◌, refl, sym, ap₂, ◌∙◌, subst}
 use mathlib.Core.List.{List, [], ◌∷◌}
 use lib.ListN.{length}
 use lib.Dec.{ltb, leb, eqb}
-use borrow.Author.Tests.{eq_eqb, le-ltb, lt-ltb, leb-true, leb-false}
+use borrow.Author.Tests.{eq-eqb, le-ltb, lt-ltb, leb-true, leb-false}
 use Rattle.value.specs.Answer.{Answer, ok, refused, need, pick, ◌>>=◌}
 use Rattle.value.specs.Refusal.{bytes_exceed_size, allocations_full, bytes_full, pointers_full}
 use Rattle.image.specs.Program.{Program, Operand, Initialize, Drop}
@@ -16,7 +16,7 @@ use Rattle.memory.specs.Tables.{Tables, tables, Out, out, more, State, state, re
 use Rattle.memory.specs.View.{view, on_given, on_outcome, after_allocate, after_write}
 use Rattle.memory.specs.declared.Registers.{Registers}
 use Rattle.memory.specs.declared.Given.{Given}
-use Rattle.memory.specs.declared.Given.TheVariants as goal
+use Rattle.memory.specs.declared.Given.TheVariants as given
 use Rattle.memory.specs.declared.Outcome.{Outcome}
 use Rattle.memory.specs.declared.Outcome.TheVariants as outcome
 use Rattle.memory.proofs.Every.{by_test}
@@ -53,14 +53,14 @@ pub drop_agrees : (s : State) → Steady s → s.memory.registers.next < 4096 �
     → Agrees s (Next (onward s)) (with_variables s s.variables) (execute believed P (seen s) (Drop x))
 unfolding execute
 drop_agrees s st room P x = record {
-  same = went-same (moved-seen s.memory _ _) (eq_eqb _ 1 st.running) refl refl;
+  same = went-same (moved-seen s.memory _ _) (eq-eqb _ 1 st.running) refl refl;
   kept = runs _ _ (moved-sound s.memory _ _ st.memory) st.variables st.running (omega arith) st.bytes;
 }
 
 -- ---- an allocation hands out the next number, its store is made of bytes, and a refusal leaves every table as it stood
 
 abbrev pub Left : Tables → Out → Type 0
-Left t o = (k : ℕ) → o.answer ≡ goal.Refused k → tables t.registers o.store o.frames o.bounds o.pointers ≡ t
+Left t o = (k : ℕ) → o.answer ≡ given.Refused k → tables t.registers o.store o.frames o.bounds o.pointers ≡ t
 
 pub record Allots (t : Tables) (o : Out) : Type 0 where
   pub hand : Hands t.registers o.answer
@@ -91,12 +91,12 @@ allots t size =
 -- what is asked of an answer with the memory's tables, against the believed memory's
 record Gives (t : Tables) (o : Out) (x : Answer Memory) : Type 0 where
   same : on_given o.answer (λ m. view (tables m o.store o.frames o.bounds o.pointers)) ≡ x
-  sound : (p : ℕ) (n : Registers) → o.answer ≡ goal.Made p n → Sound (tables n o.store o.frames o.bounds o.pointers)
+  sound : (p : ℕ) (n : Registers) → o.answer ≡ given.Made p n → Sound (tables n o.store o.frames o.bounds o.pointers)
   hand : Hands t.registers o.answer
   bytes : AreBytes o.store
   left : Left t o
 
-made-same : {p q : ℕ} {m n : Registers} → goal.Made p m ≡ goal.Made q n → m ≡ n
+made-same : {p q : ℕ} {m n : Registers} → given.Made p m ≡ given.Made q n → m ≡ n
 made-same e = cc
 
 never_ok : {k : ℕ} {m : Memory} → refused k ≡ ok m → ⊥
@@ -120,7 +120,7 @@ module _ (t : Tables) (frames bounds pointers : List ℕ) where
   wrote (outcome.Refused k) store y e so f w g = absurd (never_ok (e ∙ g))
 
   filled : (bs : List ℕ) → AreBytes bs → (a : Given) (store : List ℕ) → Hands t.registers a → (x : Answer Memory) → on_given a (λ n. view (tables n store frames bounds pointers)) ≡ x
-      → ((p : ℕ) (n : Registers) → a ≡ goal.Made p n → Sound (tables n store frames bounds pointers)) → AreBytes store → Left t (out a store frames bounds pointers)
+      → ((p : ℕ) (n : Registers) → a ≡ given.Made p n → Sound (tables n store frames bounds pointers)) → AreBytes store → Left t (out a store frames bounds pointers)
       → ((m : Memory) → x ≡ ok m → Granted m t.registers.pointers bs)
       → Gives t (filled_by a store frames bounds pointers bs) (x >>= λ n. write_bytes n t.registers.pointers bs)
   unfolding ◌>>=◌ after_write

@@ -6,7 +6,7 @@ use mathlib.Core.Path.{◌≡◌, refl, sym, ap, ◌∙◌, subst}
 use mathlib.Core.List.{List, [], ◌∷◌, ◌++◌, append_assoc}
 use lib.ListN.{length, get_or}
 use lib.Dec.{ltb, eqb}
-use borrow.Author.Tests.{lt-ltb, eq_eqb, ne_eqb, eqb-true, eqb-false}
+use borrow.Author.Tests.{lt-ltb, eq-eqb, ne_eqb, eqb-true, eqb-false}
 use Rattle.value.specs.Answer.{Answer, ok, refused, need, pick, ◌>>=◌}
 use Rattle.value.specs.Value.{Value, Kind, bool, u8, u16, u32, u64, i8, i16, i32, i64, f32, f64, char, asn, pointer, tag, switches, switch_on}
 use Rattle.value.proofs.Tags.{tag-some}
@@ -41,7 +41,7 @@ pub record Labelled (P : Program) (labels : List ℕ) : Type 0 where
 -- ---- branches
 
 either_way : (a b : ℕ) → eqb a b ≡ eqb b a
-either_way a b = by_test (eqb a b) (λ t. t ∙ sym (eq_eqb b a (sym (eqb-true a b t)))) (λ t. t ∙ sym (ne_eqb b a (λ e. eqb-false a b t (sym e))))
+either_way a b = by_test (eqb a b) (λ t. t ∙ sym (eq-eqb b a (sym (eqb-true a b t)))) (λ t. t ∙ sym (ne_eqb b a (λ e. eqb-false a b t (sym e))))
 
 -- the first branch with the number is found, or the default
 module _ (image : List ℕ) (bits default : ℕ) where
@@ -94,7 +94,7 @@ module _ (s : State) (st : Steady s) (image labels : List ℕ) (P : Program) (la
   went_agrees l next f p =
       rw (ne_eqb next 0 (λ e. omega arith), lt-ltb l (length labels) (omega (arith, lab.room)))
       (record {
-        same = went-same (moved-seen s.memory _ _) (eq_eqb _ 1 st.running) (lab.leads l f) refl;
+        same = went-same (moved-seen s.memory _ _) (eq-eqb _ 1 st.running) (lab.leads l f) refl;
         kept = runs _ _ (moved-sound s.memory _ _ st.memory) st.variables st.running (rw (lab.leads l f) (lab.within l f)) st.bytes;
       })
 

@@ -7,7 +7,7 @@ use mathlib.Core.List.{List, []}
 use mathlib.Core.Option.{Option, none, some}
 use lib.ListN.{get_or}
 use lib.Dec.{leb}
-use borrow.Author.Tests.{eq_eqb, ne_eqb, le-leb, lt-leb, le-ltb, leb-true, leb-false}
+use borrow.Author.Tests.{eq-eqb, ne_eqb, le-leb, lt-leb, le-ltb, leb-true, leb-false}
 use Rattle.value.specs.Answer.{Answer, ok, refused, ◌>>=◌}
 use Rattle.value.specs.Value.{Value}
 use Rattle.value.proofs.Tags.{tag-some}
@@ -43,12 +43,12 @@ use Rattle.agree.proofs.Reach.{on_found}
 module _ (t : Tables) (so : Sound t) where
   pop_root : t.registers.depth ≤ 1 → popped_of t.registers t.frames ≡ popped.Root
   unfolding popped_of
-  pop_root h = rw (eq_eqb _ 260 so.ready.frames, le-ltb 64 t.registers.depth so.ready.deep, le-leb t.registers.depth 1 h)
+  pop_root h = rw (eq-eqb _ 260 so.ready.frames, le-ltb 64 t.registers.depth so.ready.deep, le-leb t.registers.depth 1 h)
 
   pop-frame : 1 < t.registers.depth
       → popped_of t.registers t.frames ≡ popped.Frame (get_or t.frames (t.registers.depth * 4 - 3) 0) (get_or t.frames (t.registers.depth * 4 - 2) 0) (lowered t.registers)
   unfolding popped_of
-  pop-frame h = rw (eq_eqb _ 260 so.ready.frames, le-ltb 64 t.registers.depth so.ready.deep, lt-leb t.registers.depth 1 h)
+  pop-frame h = rw (eq-eqb _ 260 so.ready.frames, le-ltb 64 t.registers.depth so.ready.deep, lt-leb t.registers.depth 1 h)
 
   -- the frame's place and variable are sound
   top-place : get_or t.frames (t.registers.depth * 4 - 3) 0 ≤ 4096
@@ -85,7 +85,7 @@ module _ (s : State) (st : Steady s) where
       (leave believed (seen s) v (some (back_in place var, view (tables m s.memory.store s.memory.frames s.memory.bounds s.memory.pointers))))
   unfolding back_of leave set_returned variable_in ◌>>=◌
   back_agrees m place var r hp hv so none g = record {
-    same = went-same (moved-seen _ _ _) (eq_eqb _ 1 r) refl refl;
+    same = went-same (moved-seen _ _ _) (eq-eqb _ 1 r) refl refl;
     kept = runs _ _ (moved-sound _ _ _ so) st.variables r hp st.bytes;
   }
   back_agrees m place zero r hp hv so (some v) g = rw (tag-some v.kind) (refusal refl)
@@ -93,7 +93,7 @@ module _ (s : State) (st : Steady s) where
       let i : suc x - 1 ≡ x = omega arith in
       rw (tag-some v.kind, ne_eqb (suc x) 0 (λ e. omega arith), i)
       (record {
-        same = went-same (moved-seen _ _ _) (eq_eqb _ 1 r) refl (variable-set s.variables st.variables x hv v);
+        same = went-same (moved-seen _ _ _) (eq-eqb _ 1 r) refl (variable-set s.variables st.variables x hv v);
         kept = runs _ _ (moved-sound _ _ _ so) (variables-kept s.variables st.variables x hv v g) r hp st.bytes;
       })
 

@@ -7,7 +7,7 @@ use mathlib.Core.Path.{◌≡◌, refl, sym, ap, ap₂, ◌∙◌, subst}
 use mathlib.Core.List.{List, [], ◌∷◌}
 use lib.ListN.{length, get_or, length-map}
 use lib.Dec.{T, ltb, leb, eqb, leb-suc-suc}
-use borrow.Author.Tests.{lt-ltb, le-leb, lt-leb, eq_eqb, ne_eqb, ltb-true, ltb-false, eqb-true, eqb-false}
+use borrow.Author.Tests.{lt-ltb, le-leb, lt-leb, eq-eqb, ne_eqb, ltb-true, ltb-false, eqb-true, eqb-false}
 use mir.Facts.{and_yes, yes_and}
 use Rattle.value.specs.Answer.{Answer, refused, need, pick}
 use Rattle.value.specs.Refusal as Refusal
@@ -125,7 +125,7 @@ good-all (g ∷ gs) t e =
 
 same_tests : (a b c d : ℕ) → (a ≡ b → c ≡ d) → (c ≡ d → a ≡ b) → eqb a b ≡ eqb c d
 same_tests a b c d f g =
-    by_test (eqb a b) (λ t. t ∙ sym (eq_eqb c d (f (eqb-true a b t)))) (λ t. t ∙ sym (ne_eqb c d (λ e. eqb-false a b t (g e))))
+    by_test (eqb a b) (λ t. t ∙ sym (eq-eqb c d (f (eqb-true a b t)))) (λ t. t ∙ sym (ne_eqb c d (λ e. eqb-false a b t (g e))))
 
 wanted_is : (f : Callee) (n m : ℕ) (b : Bool) → f.wanted ≡ m → f.flag ≡ flag_number b → wanted_of f n ≡ eqb n (m + flag_number b)
 unfolding wanted_of
@@ -149,7 +149,7 @@ fewer a b = by_test (ltb b a) (λ t. lt-leb a b (ltb-true b a t) ∙ sym (ap not
 start-turn : (t : State) {w : Code.Stepped} {b : Answer (Machine Memory)} → StartAgrees t.memory t.variables w b → entered_turn t.memory.registers (stepped_from w) ≡ changes (seen t) done b
 unfolding changes
 start-turn t (start-refused n) = refl
-start-turn t (start-went after vs so v r l f) = ap (λ (b : Bool). turn done (record { memory = view after; running = b; place = after.registers.next; vars = variables_in vs })) (eq_eqb _ 1 r)
+start-turn t (start-went after vs so v r l f) = ap (λ (b : Bool). turn done (record { memory = view after; running = b; place = after.registers.next; vars = variables_in vs })) (eq-eqb _ 1 r)
 
 start-sound : (t : State) → sound_of t ≡ true → AreBytes t.memory.store → {w : Code.Stepped} {b : Answer (Machine Memory)} → StartAgrees t.memory t.variables w b
     → sound_of (entered_state t.memory.registers (stepped_from w)) ≡ true

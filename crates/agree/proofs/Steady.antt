@@ -5,7 +5,7 @@ use mathlib.Core.Path.{◌≡◌}
 use mathlib.Core.List.{List}
 use lib.ListN.{length}
 use lib.Dec.{leb, eqb}
-use borrow.Author.Tests.{le-leb, leb-true, eq_eqb, eqb-true}
+use borrow.Author.Tests.{le-leb, leb-true, eq-eqb, eqb-true}
 use Rattle.memory.specs.Tables.{Tables, registers, State, state, memory_ok, registers_ok, variable_ok, every, sound_of}
 use Rattle.memory.proofs.Every.{every-at, every-all}
 use Rattle.memory.proofs.Facts.{Sound, sound-of, sound_test}
@@ -52,7 +52,7 @@ idle-ok running next depth r d l = rw (r, d, le-leb next 4096 l)
 state-sound : (t : Tables) (vars : List ℕ) → Sound t → Variables vars → registers_ok t.registers.running t.registers.next t.registers.depth ≡ true
     → sound_of (state t vars) ≡ true
 unfolding sound_of
-state-sound t vars so v r = and_true (sound_test t so) (and_true (eq_eqb _ 512 v.counted) (and_true r (every-all 256 (variable_ok vars) v.each)))
+state-sound t vars so v r = and_true (sound_test t so) (and_true (eq-eqb _ 512 v.counted) (and_true r (every-all 256 (variable_ok vars) v.each)))
 
 pub runs : (t : Tables) (vars : List ℕ) → Sound t → Variables vars → t.registers.running ≡ 1 → t.registers.next ≤ 4096
     → AreBytes t.store → Runs (state t vars)

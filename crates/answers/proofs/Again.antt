@@ -8,7 +8,7 @@ use mathlib.Core.Path.{◌≡◌, refl, sym, ap, ◌∙◌}
 use mathlib.Core.List.{List, [], ◌∷◌, ◌++◌, map, append_assoc}
 use lib.ListN.{length, get_or, get_or-eq_default}
 use lib.Dec.{ltb, eqb}
-use borrow.Author.Tests.{eq_eqb, ne_eqb, eqb-true}
+use borrow.Author.Tests.{eq-eqb, ne_eqb, eqb-true}
 use Rattle.value.specs.Answer.{pick}
 use Rattle.words.specs.Ascii.{ascii}
 use Rattle.words.specs.Number.{all_digits, decimal, number}
@@ -47,17 +47,17 @@ module _ (b : ℕ) where
   without_append [] v h g = g
   without_append (x ∷ u) v h g =
       elim (ℕ_discrete x b) [
-        | yes e ↦ absurd (none (rw (eq_eqb x b e) at h))
+        | yes e ↦ absurd (none (rw (eq-eqb x b e) at h))
         | no e ↦ rw (ne_eqb x b e) (ap suc (without_append u v (less (rw (ne_eqb x b e) at h)) g))
       ]
 
   -- up to the first b stands one part
   pub part-first : (last : List (List ℕ)) (w rest : List ℕ) → Without b w → parts b last (w ++ (b ∷ rest)) ≡ w ∷ parts b last rest
   unfolding until parts
-  part-first last [] rest h = rw (eq_eqb b b refl)
+  part-first last [] rest h = rw (eq-eqb b b refl)
   part-first last (x ∷ w) rest h =
       elim (ℕ_discrete x b) [
-        | yes e ↦ absurd (none (rw (eq_eqb x b e) at h))
+        | yes e ↦ absurd (none (rw (eq-eqb x b e) at h))
         | no e ↦ rw (ne_eqb x b e) (ap (onto x) (part-first last w rest (less (rw (ne_eqb x b e) at h))))
       ]
 

@@ -10,7 +10,7 @@ use mathlib.Core.List.{List, [], ◌∷◌, ◌++◌}
 use lib.ListN.{length, get_or, set, take, drop, length-take, length-drop}
 use lib.Seq.{take_all, take-suc-set}
 use lib.Dec.{eqb}
-use borrow.Author.Tests.{eq_eqb, ne_eqb}
+use borrow.Author.Tests.{eq-eqb, ne_eqb}
 use Rattle.words.specs.Ascii.{ascii}
 use Rattle.words.specs.Text.{Text, puts}
 use Rattle.answers.specs.Lines.{Pieces, labelled}
@@ -130,7 +130,7 @@ module _ (vs : List ℕ) (n i : ℕ) {whole : Bool} (h : i < n) (w : none_set (n
   one_set e = sym (here ∙ rw (ne_eqb (get_or vs (i * 2) 0) 0 e)) ∙ w
 
   pub not_set : get_or vs (i * 2) 0 ≡ 0 → none_set (n - (i + 1)) vs (i + 1) ≡ whole
-  not_set e = sym (here ∙ rw (eq_eqb (get_or vs (i * 2) 0) 0 e)) ∙ w
+  not_set e = sym (here ∙ rw (eq-eqb (get_or vs (i * 2) 0) 0 e)) ∙ w
 
 pub all-unset : (vs : List ℕ) (n i : ℕ) {whole : Bool} → n ≤ i → none_set (n - i) vs i ≡ whole → true ≡ whole
 unfolding none_set
@@ -158,13 +158,13 @@ module _ (ps : List ℕ) (p : ℕ) {kind index : ℕ} (u : Text) {t : Text} (k :
       → t ≡ puts (local_text index id allocation offset) u → t ≡ puts (pointer_at ps p) u
   unfolding pointer_at
   local-shown {id} {allocation} {offset} z a b c h =
-      rw (eq_eqb (get_or ps (p * 5) 0) 0 (sym k ∙ z))
+      rw (eq-eqb (get_or ps (p * 5) 0) 0 (sym k ∙ z))
       (h ∙ ap₂ (λ (m n : ℕ). puts (local_text m n allocation offset) u) x a ∙ ap₂ (λ (m n : ℕ). puts (local_text (get_or ps (p * 5 + 1) 0) (get_or ps (p * 5 + 2) 0) m n) u) b c)
 
 module _ (vs : List ℕ) (i : ℕ) {tag : ℕ} (u : Text) (k : tag ≡ get_or vs (i * 2) 0) where
   pub unset-shown : tag ≡ 0 → u ≡ puts (variable_at vs i) u
   unfolding variable_at
-  unset-shown z = rw (eq_eqb (get_or vs (i * 2) 0) 0 (sym k ∙ z))
+  unset-shown z = rw (eq-eqb (get_or vs (i * 2) 0) 0 (sym k ∙ z))
 
   pub set-shown : {bits : ℕ} {t : Text} → (tag ≡ 0 → ⊥) → bits ≡ get_or vs (i * 2 + 1) 0 → t ≡ puts (variable_text i tag bits) u → t ≡ puts (variable_at vs i) u
   unfolding variable_at
@@ -174,7 +174,7 @@ module _ (vs : List ℕ) (i : ℕ) {tag : ℕ} (u : Text) (k : tag ≡ get_or vs
 
 module _ (n : ℕ) (ps : List ℕ) {r a : Text} (t : Text) (p : a ≡ puts (labelled (ascii " | ") n) t) where
   pub no_pointers : n ≡ 0 → r ≡ puts none a → r ≡ puts (pointers_text n ps) t
-  no_pointers z h = rw (eq_eqb n 0 z) (h ∙ ap (puts none) p)
+  no_pointers z h = rw (eq-eqb n 0 z) (h ∙ ap (puts none) p)
 
   pub some-pointers : (n ≡ 0 → ⊥) → {k : ℕ} → k ≡ min n 4096 → r ≡ puts (each k 0 (pointer_at ps)) a → r ≡ puts (pointers_text n ps) t
   some-pointers z e h =

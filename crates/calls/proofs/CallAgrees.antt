@@ -7,7 +7,7 @@ use mathlib.Core.List.{List}
 use mathlib.Core.Option.{Option, none, some}
 use lib.ListN.{length, get_or}
 use lib.Dec.{eqb}
-use borrow.Author.Tests.{eq_eqb, ne_eqb, lt-ltb, eqb-true, eqb-false}
+use borrow.Author.Tests.{eq-eqb, ne_eqb, lt-ltb, eqb-true, eqb-false}
 use Rattle.value.specs.Answer.{Answer, ok, refused, ◌>>=◌}
 use Rattle.image.specs.Program.{Program, Operand, Declared, Function, function_at, place_of, Call}
 use Rattle.memory.specs.Memory.{Memory, Back, push_frame}
@@ -151,12 +151,12 @@ module _ (s : List ℕ) (t : Tables) (vars : List ℕ) (so : Sound t) (good : Va
     unfolding called_in arrived ◌>>=◌
     by_variables a b i j (same-refusal n) =
         subst₂ (λ (w : Stepped) (b : Answer (Machine.Stepped Memory)). CallAgrees t vars w b)
-        (sym (simp (eq_eqb _ _ e, i)))
+        (sym (simp (eq-eqb _ _ e, i)))
         (sym (memory-made ∙ ap (λ o. o >>= finish (view made.after)) j))
         (call-refused n)
     by_variables a b i j (same-values vs v) =
         subst₂ (λ (w : Stepped) (b : Answer (Machine.Stepped Memory)). CallAgrees t vars w b)
-        (sym (simp (eq_eqb _ _ e, i, made.entered')))
+        (sym (simp (eq-eqb _ _ e, i, made.entered')))
         (sym (memory-made ∙ ap (λ o. o >>= finish (view made.after)) j ∙ ap (λ m. finish m (variables_in vs)) (sym (moved-seen made.after _ k))))
         (call-went (moved made.after made.after.registers.running k) vs (moved-sound made.after _ k made.sound) v (made.running ∙ runs) small made.bytes)
 

@@ -6,7 +6,7 @@ use mathlib.Core.List.{List}
 use lib.ListN.{length, get_or, set, length-set}
 use lib.Seq.{get_or-set_same}
 use lib.Dec.{leb, eqb}
-use borrow.Author.Tests.{eq_eqb, ne_eqb, le-ltb, leb-false, eqb-true, eqb-false}
+use borrow.Author.Tests.{eq-eqb, ne_eqb, le-ltb, leb-false, eqb-true, eqb-false}
 use Rattle.value.specs.Answer.{Answer, ok, refused, pick, ◌>>=◌}
 use Rattle.value.specs.Refusal.{frames_full}
 use Rattle.image.specs.Program.{Slot}
@@ -37,7 +37,7 @@ module _ (t : Tables) (so : Sound t) (place variable : ℕ) where
       ≡ pick (eqb (frame_number t) 0) (both (moved.Done (push_tables t place variable).registers) (push_tables t place variable).frames) (both (moved.Refused (frame_number t)) t.frames)
   unfolding pushed_of frame_room_of
   by_room =
-      let l = eq_eqb _ _ so.ready.frames in
+      let l = eq-eqb _ _ so.ready.frames in
       by_test (leb 64 t.registers.depth)
       (λ w. simp (l, w))
       (λ w. by_test (leb 4294967295 t.registers.counter) (λ v. simp (l, w, v)) (λ v. simp (l, w, v)))
@@ -51,7 +51,7 @@ module _ (t : Tables) (so : Sound t) (place variable : ℕ) where
 
   module _ (e : frame_number t ≡ 0) where
     frame-given : pushed_of t.registers place variable t.frames ≡ both (moved.Done (push_tables t place variable).registers) (push_tables t place variable).frames
-    frame-given = by_room ∙ simp (eq_eqb _ _ e)
+    frame-given = by_room ∙ simp (eq-eqb _ _ e)
 
     frame-seen : push_frame (view t) (back_in place variable) ≡ ok (view (push_tables t place variable))
     unfolding after_push
@@ -106,7 +106,7 @@ module _ (s : List ℕ) (f : Callee) (xs : List Slot) (t : Tables) (so : Sound t
     slots_same : (e : frame_number t ≡ 0) → call_room s f t ≡ slots_number s f.slots xs (push_tables t place to)
     unfolding call_room_of
     slots_same e =
-        simp (eq_eqb _ _ e)
+        simp (eq-eqb _ _ e)
         (room_in_lem ∙ sym (ap (λ k. slots_room_of s (length xs) f.slots k (get_or t.bounds k 0) t.registers.pointers) (live_same t so place to e)))
 
     frame-first : (frame_number t ≡ 0 → ⊥) → call_room s f t ≡ frame_number t

@@ -4,7 +4,7 @@ use native.Mathlib.Numerals.{sub-one}
 use native.Mathlib.Omega.{arith}
 use mathlib.Core.Path.{◌≡◌, refl, sym, ap, ◌∙◌}
 use mathlib.Core.List.{List}
-use borrow.Author.Tests.{eq_eqb}
+use borrow.Author.Tests.{eq-eqb}
 use lib.ListN.{length}
 use Rattle.memory.specs.Tables.{both, Tables, tables, Out, out, allocated_of, pushed_of}
 use Rattle.memory.specs.declared.Registers.{Registers}
@@ -13,7 +13,7 @@ use Rattle.memory.specs.declared.Moved.TheVariants as moved
 use Rattle.memory.specs.declared.Outcome.{Outcome}
 use Rattle.memory.specs.declared.Outcome.TheVariants as outcome
 use Rattle.memory.specs.declared.Given.{Given}
-use Rattle.memory.specs.declared.Given.TheVariants as goal
+use Rattle.memory.specs.declared.Given.TheVariants as given
 use Rattle.instruction.specs.Code.{stepped}
 use Rattle.instruction.specs.declared.step.Progress.{Progress}
 use Rattle.instruction.specs.declared.step.Progress.TheVariants as progress
@@ -29,19 +29,19 @@ use Rattle.calls.specs.declared.fields.Callee.{Callee}
 module _ (s : List ℕ) where
   -- ---- slots made
 
-  on_made : (r : Given) (st fr bo po : List ℕ) (o : Out) (on : Tables → Entered) (p : ℕ) (m : Registers) → out r st fr bo po ≡ o → r ≡ goal.Made p m → on (tables m st fr bo po) ≡ after_slot o on
+  on_made : (r : Given) (st fr bo po : List ℕ) (o : Out) (on : Tables → Entered) (p : ℕ) (m : Registers) → out r st fr bo po ≡ o → r ≡ given.Made p m → on (tables m st fr bo po) ≡ after_slot o on
   on_made r st fr bo po o on p m e d = ap (λ (g : Given). after_slot (out g st fr bo po) on) (sym d) ∙ ap (λ w. after_slot w on) e
 
-  on_refused : (r : Given) (st fr bo po : List ℕ) (o : Out) (on : Tables → Entered) (n : ℕ) → out r st fr bo po ≡ o → r ≡ goal.Refused n → entered (moved.Refused n) st fr bo po ≡ after_slot o on
+  on_refused : (r : Given) (st fr bo po : List ℕ) (o : Out) (on : Tables → Entered) (n : ℕ) → out r st fr bo po ≡ o → r ≡ given.Refused n → entered (moved.Refused n) st fr bo po ≡ after_slot o on
   on_refused r st fr bo po o on n e d = ap (λ (g : Given). after_slot (out g st fr bo po) on) (sym d) ∙ ap (λ w. after_slot w on) e
 
-  pub made_on : (n at : ℕ) (t : Tables) (x : Slot) (r : Given) (st fr bo po : List ℕ) (p : ℕ) (m : Registers) → 0 < n → x ≡ slot_at s at → out r st fr bo po ≡ allocated_of t x.size → r ≡ goal.Made p m
+  pub made_on : (n at : ℕ) (t : Tables) (x : Slot) (r : Given) (st fr bo po : List ℕ) (p : ℕ) (m : Registers) → 0 < n → x ≡ slot_at s at → out r st fr bo po ≡ allocated_of t x.size → r ≡ given.Made p m
       → slots_made_of s (n - 1) x.next (tables m st fr bo po) ≡ slots_made_of s n at t
   unfolding slots_made_of
   made_on zero at t x r st fr bo po p m q e a d = absurd (omega arith)
   made_on (suc n) at t x r st fr bo po p m q e a d = simp (← e, sub-one) (on_made r st fr bo po (allocated_of t x.size) (λ t'. slots_made_of s n x.next t') p m a d)
 
-  pub made_stop : (n at : ℕ) (t : Tables) (x : Slot) (r : Given) (st fr bo po : List ℕ) (number : ℕ) → 0 < n → x ≡ slot_at s at → out r st fr bo po ≡ allocated_of t x.size → r ≡ goal.Refused number
+  pub made_stop : (n at : ℕ) (t : Tables) (x : Slot) (r : Given) (st fr bo po : List ℕ) (number : ℕ) → 0 < n → x ≡ slot_at s at → out r st fr bo po ≡ allocated_of t x.size → r ≡ given.Refused number
       → entered (moved.Refused number) st fr bo po ≡ slots_made_of s n at t
   unfolding slots_made_of
   made_stop zero at t x r st fr bo po number q e a d = absurd (omega arith)
@@ -71,8 +71,8 @@ module _ (t : Tables) (vars s : List ℕ) (k : ℕ) (call : CallFields) (f : Cal
   pub call_on : (w : Entered) (p : Progress) → r ≡ outcome.Done → w ≡ entered_of s call.to f t → p ≡ arrived k w.answer
       → stepped p w.store w.frames w.bounds w.pointers left ≡ called_in t vars s k call f
   unfolding called_in
-  call_on w p d h g = simp (eq_eqb _ _ room, done-is vars _ left r e d, ← h, ← g)
+  call_on w p d h g = simp (eq-eqb _ _ room, done-is vars _ left r e d, ← h, ← g)
 
   pub call_stop : (n : ℕ) → r ≡ outcome.Refused n → stepped (progress.Refused n) t.store t.frames t.bounds t.pointers left ≡ called_in t vars s k call f
   unfolding called_in
-  call_stop n d = let z = refused-is vars _ left r n e d in simp (eq_eqb _ _ room, z.0, z.1)
+  call_stop n d = let z = refused-is vars _ left r n e d in simp (eq-eqb _ _ room, z.0, z.1)

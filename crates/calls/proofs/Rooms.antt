@@ -5,7 +5,7 @@ use native.Mathlib.Omega.{arith}
 use mathlib.Core.Bool.{Bool, true, false}
 use mathlib.Core.Path.{◌≡◌, refl}
 use mathlib.Core.List.{List}
-use borrow.Author.Tests.{eq_eqb, ne_eqb, ltb-false, leb-false}
+use borrow.Author.Tests.{eq-eqb, ne_eqb, ltb-false, leb-false}
 use lib.ListN.{length, get_or}
 use lib.Dec.{ltb, leb, eqb}
 use Rattle.value.specs.Answer.{pick}
@@ -25,7 +25,7 @@ module _ (s : List ℕ) where
       → slots_room_of s (n - 1) x.next (l + 1) (u + x.size) (g + 1) ≡ slots_room_of s n at l u g
   unfolding slots_room_of
   room_on zero at l u g number x p e r z = absurd (omega arith)
-  room_on (suc n) at l u g number x p e r z = simp (← e, ← r, eq_eqb _ _ z, sub-one)
+  room_on (suc n) at l u g number x p e r z = simp (← e, ← r, eq-eqb _ _ z, sub-one)
 
   pub room_stop : (n at l u g number : ℕ) (x : Slot) → 0 < n → x ≡ slot_at s at → number ≡ slot_room_of l u g x.size → (number ≡ 0 → ⊥) → number ≡ slots_room_of s n at l u g
   unfolding slots_room_of

@@ -4,7 +4,7 @@ use native.Mathlib.Numerals.{sub-one}
 use native.Mathlib.Omega.{arith}
 use mathlib.Core.Path.{◌≡◌, refl, sym, ap}
 use mathlib.Core.List.{List}
-use borrow.Author.Tests.{eq_eqb, ne_eqb}
+use borrow.Author.Tests.{eq-eqb, ne_eqb}
 use Rattle.value.specs.Answer.{Answer, ok, refused, ◌>>=◌}
 use Rattle.value.specs.Value.{tag}
 use Rattle.instruction.specs.Decode.{field_at, operand_at}
@@ -48,7 +48,7 @@ module _ (s : List ℕ) where
   unfolding arguments_set found_set ◌>>=◌
   arguments-refused zero p k a vars from v i j f g h = absurd (i refl)
   arguments-refused (suc n) p zero a vars from v i j f g h = absurd (j refl)
-  arguments-refused (suc n) p (suc k) a vars from v i j f g h = simp (← f, ← g, eq_eqb _ _ h)
+  arguments-refused (suc n) p (suc k) a vars from v i j f g h = simp (← f, ← g, eq-eqb _ _ h)
 
   pub arguments_unwanted : (n p k a : ℕ) (vars : List ℕ) → n ≡ 0 → arguments_set s n p k a vars ≡ ok vars
   unfolding arguments_set
@@ -69,12 +69,12 @@ module _ (s : List ℕ) (call : CallFields) (f : Callee) (vars : List ℕ) where
 
   pub context-none : call.context ≡ 0 → arguments vars ≡ context_on s call f vars
   unfolding context_on context_set ◌>>=◌
-  context-none e = simp (eq_eqb _ _ e)
+  context-none e = simp (eq-eqb _ _ e)
 
   pub context-refused : (from : Operand) (v : Found) → (call.context ≡ 0 → ⊥) → from ≡ operand_at s call.context → v ≡ evaluated vars from → v.tag ≡ 0
       → refused v.bits ≡ context_on s call f vars
   unfolding context_on context_set found_set ◌>>=◌
-  context-refused from v n e d z = simp (ne_eqb _ _ n, ← e, ← d, eq_eqb _ _ z)
+  context-refused from v n e d z = simp (ne_eqb _ _ n, ← e, ← d, eq-eqb _ _ z)
 
   pub context_on_lem : (from : Operand) (v : Found) (set_first : List ℕ) → (call.context ≡ 0 → ⊥) → from ≡ operand_at s call.context → v ≡ evaluated vars from → (v.tag ≡ 0 → ⊥)
       → set_first ≡ set_variable vars f.context v → arguments set_first ≡ context_on s call f vars
@@ -83,12 +83,12 @@ module _ (s : List ℕ) (call : CallFields) (f : Callee) (vars : List ℕ) where
 
   pub pointer_none : call.pointer ≡ 0 → context_on s call f vars ≡ pointer_on s call f vars
   unfolding pointer_on pointer_set ◌>>=◌
-  pointer_none e = simp (eq_eqb _ _ e)
+  pointer_none e = simp (eq-eqb _ _ e)
 
   pub pointer-refused : (v : Found) → (call.pointer ≡ 0 → ⊥) → v ≡ read_variable vars (call.pointer - 1) → v.tag ≡ 0
       → refused v.bits ≡ pointer_on s call f vars
   unfolding pointer_on pointer_set found_set ◌>>=◌
-  pointer-refused v n d z = simp (ne_eqb _ _ n, ← d, eq_eqb _ _ z)
+  pointer-refused v n d z = simp (ne_eqb _ _ n, ← d, eq-eqb _ _ z)
 
   pub pointer_on_lem : (v : Found) (set_first : List ℕ) → (call.pointer ≡ 0 → ⊥) → v ≡ read_variable vars (call.pointer - 1) → (v.tag ≡ 0 → ⊥)
       → set_first ≡ set_variable vars f.result v → context_on s call f set_first ≡ pointer_on s call f vars

@@ -7,7 +7,7 @@ use mathlib.Core.List.{List, [], ◌∷◌}
 use lib.ListN.{length, get_or, set}
 use lib.Seq.{get_or-set_same, get_or-set_other, set_out}
 use lib.Dec.{ltb, leb, eqb}
-use borrow.Author.Tests.{eq_eqb, ne_eqb, le-ltb, eqb-true, eqb-false, ltb-true, ltb-false}
+use borrow.Author.Tests.{eq-eqb, ne_eqb, le-ltb, eqb-true, eqb-false, ltb-true, ltb-false}
 use Rattle.value.specs.Answer.{Answer, ok, refused, pick, ◌>>=◌}
 use Rattle.value.specs.Value.{value, pointer}
 use Rattle.image.specs.Program.{Slot}
@@ -65,7 +65,7 @@ module _ (t : Tables) (so : Sound t) (size : ℕ) where
 
   module _ (e : slot_number t size ≡ 0) where
     slot-given : allocated_of t size ≡ made t size
-    slot-given = by_room ∙ simp (eq_eqb _ _ e)
+    slot-given = by_room ∙ simp (eq-eqb _ _ e)
 
     slot_seen : allocate (view t) size ≡ ok (view (slot_tables t size))
     unfolding after_allocate
@@ -147,7 +147,7 @@ module _ (s : List ℕ) where
 
   module _ (at : ℕ) (x : Slot) (xs : List Slot) (next : ℕ) (t : Tables) (so : Sound t) (r : slot_at s at ≡ record { variable = x.var; size = x.size; next = next }) where
     number_rest : slot_number t x.size ≡ 0 → slots_number s at (x ∷ xs) t ≡ slots_number s next xs (slot_tables t x.size)
-    number_rest e = first-number at x xs next t r ∙ simp (eq_eqb _ _ e) (rest_number next x.size xs t so e)
+    number_rest e = first-number at x xs next t r ∙ simp (eq-eqb _ _ e) (rest_number next x.size xs t so e)
 
     number-first : (slot_number t x.size ≡ 0 → ⊥) → slots_number s at (x ∷ xs) t ≡ slot_number t x.size
     number-first n = first-number at x xs next t r ∙ simp (ne_eqb _ _ n)

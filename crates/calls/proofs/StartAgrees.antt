@@ -6,7 +6,7 @@ use mathlib.Core.Path.{◌≡◌, refl, sym, ap, ap₂, ◌∙◌, subst, subst�
 use mathlib.Core.List.{List, [], ◌∷◌}
 use lib.ListN.{length, get_or, replicate, length-replicate}
 use lib.Dec.{ltb, eqb}
-use borrow.Author.Tests.{eq_eqb, ne_eqb, eqb-true, eqb-false}
+use borrow.Author.Tests.{eq-eqb, ne_eqb, eqb-true, eqb-false}
 use Rattle.value.specs.Answer.{Answer, ok, refused, need, ◌>>=◌}
 use Rattle.value.specs.Value.{Value, tag}
 use Rattle.image.specs.Program.{Program, Function, function_at, place_of}
@@ -93,7 +93,7 @@ module _ (s : List ℕ) (f : Callee) (F : Function) (callee : CalleeRead s f F) 
   by_flag : (b : Bool) → f.flag ≡ flag_number b → (vars : List ℕ) → Variables vars → Shows (started_set s f (tags_of gs) (bits_of gs) vars) (set_started (variables_in vars) F b gs)
   unfolding started_set set_started
   by_flag true e vars good = rw (ne_eqb f.flag 0 (λ z. omega arith)) (flagged_shown gs h vars good)
-  by_flag false e vars good = rw (eq_eqb f.flag 0 e) (parameters-shown gs h vars good)
+  by_flag false e vars good = rw (eq-eqb f.flag 0 e) (parameters-shown gs h vars good)
 
   -- what the believed machine makes of the variables before the slots
   abbrev started : (context : Value) → Vars
@@ -173,7 +173,7 @@ module _ (s : List ℕ) (t : Tables) (vars : List ℕ) (so : Sound t) (counted :
       let slots : slots_made_of s f.count f.slots t ≡ entered (moved.Done after.registers) after.store after.frames after.bounds after.pointers =
       ap (λ j. slots_made_of s j f.slots t) n ∙ made.made' in
       subst₂ (λ (w : Stepped) (b : Answer (Machine Memory)). StartAgrees t vars w b)
-      (sym (simp (eq_eqb _ _ e, slots)))
+      (sym (simp (eq-eqb _ _ e, slots)))
       (sym (ap (λ o. o >>= finish) (made.seen before) ∙ ap₂ (λ m ws. finish (m, ws)) (sym (moved-seen after 1 k)) (sym shows.shown)))
       (start-went (Call.moved after 1 k) vs (moved-sound after 1 k made.sound) shows.good refl small made.bytes)
 

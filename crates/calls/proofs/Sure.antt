@@ -8,7 +8,7 @@ use mathlib.Core.List.{List}
 use lib.ListN.{length, get_or, set, length-set}
 use lib.Seq.{get_or-set_same, get_or-set_other}
 use lib.Dec.{ltb, eqb}
-use borrow.Author.Tests.{lt-ltb, le-ltb, ltb-true, eq_eqb, ne_eqb, eqb-true, eqb-false}
+use borrow.Author.Tests.{lt-ltb, le-ltb, ltb-true, eq-eqb, ne_eqb, eqb-true, eqb-false}
 use Rattle.value.specs.Answer.{ok, pick, ◌>>=◌}
 use Rattle.value.specs.Value.{tag}
 use Rattle.memory.specs.Tables.{both}
@@ -104,7 +104,7 @@ module _ (s : List ℕ) where
       where
         stop : (k : ℕ) → 0 < k → false ≡ all_found s k at vars
         stop zero q = absurd (omega arith)
-        stop (suc k) q = simp (← e, ← d, eq_eqb _ _ z)
+        stop (suc k) q = simp (← e, ← d, eq-eqb _ _ z)
 
     -- the first of them has one
     pub all_first : 0 < n → all_found s n at vars ≡ true → v.tag ≡ 0 → ⊥
@@ -183,7 +183,7 @@ module _ (s : List ℕ) (call : CallFields) where
 module _ (call : CallFields) (f : Callee) (vars : List ℕ) where
   pub pointer_none : call.pointer ≡ 0 → pointer_set call f vars ≡ ok vars
   unfolding pointer_set
-  pointer_none e = rw (eq_eqb _ _ e)
+  pointer_none e = rw (eq-eqb _ _ e)
 
   pub pointer-put : (v : Found) (vs : List ℕ) → (call.pointer ≡ 0 → ⊥) → v ≡ read_variable vars (call.pointer - 1) → ((read_variable vars (call.pointer - 1)).tag ≡ 0 → ⊥)
       → vs ≡ set_variable vars f.result v → pointer_set call f vars ≡ ok vs
@@ -192,7 +192,7 @@ module _ (call : CallFields) (f : Callee) (vars : List ℕ) where
 
   pub context-none : (s : List ℕ) → call.context ≡ 0 → context_set s call f vars ≡ ok vars
   unfolding context_set
-  context-none s e = rw (eq_eqb _ _ e)
+  context-none s e = rw (eq-eqb _ _ e)
 
   pub context-put : (s : List ℕ) (o : Operand) (v : Found) (vs : List ℕ) → (call.context ≡ 0 → ⊥) → o ≡ operand_at s call.context → v ≡ evaluated vars o
       → ((evaluated vars (operand_at s call.context)).tag ≡ 0 → ⊥) → vs ≡ set_variable vars f.context v → context_set s call f vars ≡ ok vs

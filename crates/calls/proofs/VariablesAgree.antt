@@ -6,7 +6,7 @@ use mathlib.Core.Path.{◌≡◌, refl, ap, ◌∙◌, subst}
 use mathlib.Core.List.{List, [], ◌∷◌}
 use mathlib.Core.Option.{Option, none, some}
 use lib.ListN.{length}
-use borrow.Author.Tests.{eq_eqb, ne_eqb}
+use borrow.Author.Tests.{eq-eqb, ne_eqb}
 use Rattle.value.specs.Answer.{Answer, ok, refused, ◌>>=◌}
 use Rattle.value.specs.Value.{Value, value, tag, pointer}
 use Rattle.value.proofs.Tags.{tag-some}
@@ -137,7 +137,7 @@ ContextFits (some o) = Fits o
 module _ (s : List ℕ) (call : CallFields) (f : Callee) (vars : List ℕ) (good : Variables vars) (x : ℕ) (l : x < 256) where
   context_alike : (c : Option Operand) → f.context ≡ x → ContextRead s call.context c → ContextFits c → Alike (context_set s call f vars) (set_from (variables_in vars) x c)
   unfolding context_set set_from
-  context_alike none d e h = rw (eq_eqb _ _ e) (same-values vars good)
+  context_alike none d e h = rw (eq-eqb _ _ e) (same-values vars good)
   context_alike (some o) d (n, (next, r)) h = rw (d, ne_eqb _ _ n, r.0) (operand_alike vars good x l o next r.1 h)
 
   variable_alike : (y : ℕ) → y < 256 → Alike (found_set vars x (read_variable vars y)) (value_of (variables_in vars) (variable y) >>= λ v. ok (set_to (variables_in vars) x v))

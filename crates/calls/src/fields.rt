@@ -7,14 +7,14 @@ use memory::{MAX_VARIABLES, Place};
 use value::refusal::NO_INSTRUCTION;
 
 // Where an optional operand stands, 0 for none, and the place after it.
-#[derive(Drop)]
+#[derive(Clone, Copy)]
 pub struct Spot {
     pub start: usize,
     pub next: usize,
 }
 
 // A slot's variable and size, and the place after it.
-#[derive(Drop)]
+#[derive(Clone, Copy)]
 pub struct Slot {
     pub variable: u64,
     pub size: u64,
@@ -24,7 +24,7 @@ pub struct Slot {
 // to: the variable that takes the result + 1, or 0 for none; context: where its operand stands, or 0 for none;
 // callee: the function's number; given: how many arguments; arguments: where the first stands;
 // pointer: the return-pointer variable + 1, or 0 for none; next: the place after the fields
-#[derive(Drop)]
+#[derive(Clone, Copy)]
 pub struct CallFields {
     pub to: u64,
     pub context: usize,
@@ -37,7 +37,7 @@ pub struct CallFields {
 
 // entry: a label; result, context: the return and the context variable; flag: the return-pointer flag;
 // wanted: how many parameters; parameters: where the first stands; count: how many slots; slots: where the first stands, 0 where refused
-#[derive(Drop)]
+#[derive(Clone, Copy)]
 pub struct Callee {
     pub entry: u64,
     pub result: u64,

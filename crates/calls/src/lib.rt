@@ -1,4 +1,6 @@
 // Call and start, from lir/eval.rs: the callee's fields, room for its frame and slots, and its variables.
+#![tactic(auto)]
+
 pub mod begin;
 pub mod call;
 pub mod fields;

@@ -8,7 +8,7 @@ use mathlib.Core.List.{List, []}
 use lib.ListN.{length, get_or, drop, get_or-eq_default}
 use lib.Seq.{sets}
 use lib.Dec.{leb}
-use borrow.Author.Tests.{eq_eqb, ne_eqb, le-leb, lt-leb, leb-true}
+use borrow.Author.Tests.{eq-eqb, ne_eqb, le-leb, lt-leb, leb-true}
 use Rattle.value.specs.Answer.{pick}
 use Rattle.value.specs.Bytes.{same_bytes}
 use Rattle.words.specs.Ascii.{ascii}
@@ -34,7 +34,7 @@ unfolding mosts
 no_most sort h = sym (get_or-eq_default mosts 0 {n = sort} (omega arith))
 
 pub no_frame_lem : (d : ℕ) (w : List ℕ) → d ≡ 0 → read.Bad ≡ frame_read d w
-no_frame_lem d w e = rw (eq_eqb d 0 e)
+no_frame_lem d w e = rw (eq-eqb d 0 e)
 
 pub a_frame : (d : ℕ) (w : List ℕ) {r : Read} → (d ≡ 0 → ⊥) → r ≡ up_to (d - 1) w → r ≡ frame_read d w
 a_frame d w n h = rw (ne_eqb d 0 n) h
@@ -86,16 +86,16 @@ module _ (s d b : ℕ) (w : List ℕ) {r : Read} where
 module _ (sort depth : ℕ) (s : Spot) (ws : List (List ℕ)) {r : Spot} where
   pub no_part : s.bad ≡ 0 → sort ≡ 0 → r ≡ good 0 s.next → r ≡ part_after sort depth s ws
   unfolding part_after
-  no_part e f h = rw (eq_eqb s.bad 0 e, eq_eqb sort 0 f) h
+  no_part e f h = rw (eq-eqb s.bad 0 e, eq-eqb sort 0 f) h
 
   module _ (e : s.bad ≡ 0) (f : sort ≡ 0 → ⊥) where
     pub a_part : (n : ℕ) → part_read sort depth s.value (get_or ws s.next []) ≡ read.Number n → r ≡ good n (s.next + 1) → r ≡ part_after sort depth s ws
     unfolding part_after
-    a_part n g h = rw (eq_eqb s.bad 0 e, ne_eqb sort 0 f, g) h
+    a_part n g h = rw (eq-eqb s.bad 0 e, ne_eqb sort 0 f, g) h
 
     pub bad-part : part_read sort depth s.value (get_or ws s.next []) ≡ read.Bad → r ≡ bad s.next → r ≡ part_after sort depth s ws
     unfolding part_after
-    bad-part g h = rw (eq_eqb s.bad 0 e, ne_eqb sort 0 f, g) h
+    bad-part g h = rw (eq-eqb s.bad 0 e, ne_eqb sort 0 f, g) h
 
 pub stuck : (sort depth : ℕ) (s : Spot) (ws : List (List ℕ)) → (s.bad ≡ 0 → ⊥) → s ≡ part_after sort depth s ws
 unfolding part_after
@@ -165,16 +165,16 @@ module _ (sort h v : ℕ) (s : Spot) (ws : List (List ℕ)) {r : Spot} (bytes ta
   module _ (e : s.bad ≡ 0) where
     pub end-hex : sort ≡ 1 → r ≡ hex_end (hex_answer (get_or ws s.next []) h) ws s.next → bytes' ≡ hex_buffer (get_or ws s.next []) bytes → tags' ≡ tags → bits' ≡ bits → End sort h v s ws r bytes tags bits bytes' tags' bits'
     unfolding end_after bytes_after tags_after bits_after
-    end-hex f a b c d = rw (eq_eqb s.bad 0 e, f) (a, b, c, d)
+    end-hex f a b c d = rw (eq-eqb s.bad 0 e, f) (a, b, c, d)
 
     pub end-values : sort ≡ 2 → r ≡ values_end (values_from v 0 s.next (drop s.next ws)).end s.next → bytes' ≡ bytes
         → tags' ≡ sets tags 0 (values_from v 0 s.next (drop s.next ws)).tags → bits' ≡ sets bits 0 (values_from v 0 s.next (drop s.next ws)).bits → End sort h v s ws r bytes tags bits bytes' tags' bits'
     unfolding end_after bytes_after tags_after bits_after
-    end-values f a b c d = rw (eq_eqb s.bad 0 e, f) (a, b, c, d)
+    end-values f a b c d = rw (eq-eqb s.bad 0 e, f) (a, b, c, d)
 
     pub end-plain : (sort ≡ 1 → ⊥) → (sort ≡ 2 → ⊥) → r ≡ ended_at ws s.next 0 → bytes' ≡ bytes → tags' ≡ tags → bits' ≡ bits → End sort h v s ws r bytes tags bits bytes' tags' bits'
     unfolding end_after bytes_after tags_after bits_after
-    end-plain f g a b c d = rw (eq_eqb s.bad 0 e, ne_eqb sort 1 f, ne_eqb sort 2 g) (a, b, c, d)
+    end-plain f g a b c d = rw (eq-eqb s.bad 0 e, ne_eqb sort 1 f, ne_eqb sort 2 g) (a, b, c, d)
 
 pub end_stuck : (sort h v : ℕ) (s : Spot) (ws : List (List ℕ)) (bytes tags bits : List ℕ) → (s.bad ≡ 0 → ⊥)
     → End sort h v s ws s bytes tags bits bytes tags bits

@@ -1,5 +1,5 @@
 -- What the steps of a comparison found gives what its definition answers.
-use Rattle.std.proofs.Common.{◌≡◌, ℕ, ◌^◌, ◌<◌, ◌≤◌, Bool, true, false, not, ◌&&◌, leb, ℤ, pos, negsuc, ◌-ℤ◌, sym, refl, ap, ◌∙◌, subst, lt_of_lt_of_le, arith, pow_mono, w64, SFits, to_z, of_z, le-ltb, lt-ltb, eq_eqb, ne_eqb}
+use Rattle.std.proofs.Common.{◌≡◌, ℕ, ◌^◌, ◌<◌, ◌≤◌, Bool, true, false, not, ◌&&◌, leb, ℤ, pos, negsuc, ◌-ℤ◌, sym, refl, ap, ◌∙◌, subst, lt_of_lt_of_le, arith, pow_mono, w64, SFits, to_z, of_z, le-ltb, lt-ltb, eq-eqb, ne_eqb}
 use borrow.Author.Tests.{not-true, not-false}
 use lib.Dec as D
 use mir.Syntax.{Width}
@@ -40,7 +40,7 @@ less-is a b h = rw (lt-ltb a b h)
 
 pub equal_is : (a b : ℕ) → b ≤ a → a ≡ b → O.TheVariants.Equal ≡ ordered (naturals a b)
 unfolding naturals ordered
-equal_is a b h e = rw (le-ltb a b h, eq_eqb a b e)
+equal_is a b h e = rw (le-ltb a b h, eq-eqb a b e)
 
 pub greater-is : (a b : ℕ) → b ≤ a → (a ≡ b → ⊥) → O.TheVariants.Greater ≡ ordered (naturals a b)
 unfolding naturals ordered
@@ -60,8 +60,8 @@ unfolding integers naturals
 integers-eq x y e = ap (integers x) (sym e) ∙ itself x
   where
     itself : (x : ℤ) → integers x x ≡ equal
-    itself (pos a) = rw (le-ltb a a (omega arith), eq_eqb a a refl)
-    itself (negsuc a) = rw (le-ltb a a (omega arith), eq_eqb a a refl)
+    itself (pos a) = rw (le-ltb a a (omega arith), eq-eqb a a refl)
+    itself (negsuc a) = rw (le-ltb a a (omega arith), eq-eqb a a refl)
 
 integers-gt : (x y : ℤ) → lt_z x y ≡ false → (x ≡ y → ⊥) → integers x y ≡ greater
 unfolding integers naturals
@@ -228,7 +228,7 @@ module _ (t : Believed.Test) (x y : Value) where
       → pick (is_float (family x.kind)) (reals (real x) (real y)) (naturals x.bits y.bits) ≡ o
       → c ≡ ordered o → r ≡ computed (ok (truth (passes t (order_of c)))) → r ≡ computed (equality t x y)
   unfolding equality
-  equal-kinds p q e b h i f g = accept _ (eq_eqb _ _ (sym p ∙ e ∙ q)) (sym b ∙ not-false _ h) (passed t f g (sym i))
+  equal-kinds p q e b h i f g = accept _ (eq-eqb _ _ (sym p ∙ e ∙ q)) (sym b ∙ not-false _ h) (passed t f g (sym i))
 
   pub equal_floats : {m n : ℕ} {s : Bool} {c : O.Order} {r : C.Computed} → m ≡ tag x.kind → n ≡ tag y.kind → m ≡ n → s ≡ has_equality x.kind → not s ≡ false
       → is_float (family x.kind) ≡ true → c ≡ ordered (reals (floating x) (floating y)) → r ≡ computed (ok (truth (passes t (order_of c)))) → r ≡ computed (equality t x y)

@@ -1,5 +1,5 @@
 -- The machine's comparisons of two floats are those of the numbers that their bits stand for, counted in units of 2 ^ -1074.
-use Rattle.std.proofs.Common.{◌≡◌, ℕ, zero, suc, ◌+◌, ◌-◌, ◌*◌, ◌/◌, ◌%◌, ◌^◌, ◌<◌, ◌≤◌, Bool, true, false, cond, not, ◌&&◌, ◌||◌, T, eqb, ltb, leb, ℤ, sym, refl, ap, ◌∙◌, subst, mul-le-mul_right, mul_assoc, mul_comm, add-mul, mul-lt-mul_of_pos_right, mul-pos, zero-mul, mul_right_comm, arith, pow_pos, pow-add, ltb-false, ltb-true, le-ltb, lt-ltb, eq_eqb, ne_eqb, eqb-true}
+use Rattle.std.proofs.Common.{◌≡◌, ℕ, zero, suc, ◌+◌, ◌-◌, ◌*◌, ◌/◌, ◌%◌, ◌^◌, ◌<◌, ◌≤◌, Bool, true, false, cond, not, ◌&&◌, ◌||◌, T, eqb, ltb, leb, ℤ, sym, refl, ap, ◌∙◌, subst, mul-le-mul_right, mul_assoc, mul_comm, add-mul, mul-lt-mul_of_pos_right, mul-pos, zero-mul, mul_right_comm, arith, pow_pos, pow-add, ltb-false, ltb-true, le-ltb, lt-ltb, eq-eqb, ne_eqb, eqb-true}
 use mathlib.Core.Bool.{beq, and-false}
 use lib.Ieee.{Float, inf, fin, Format, binary32, binary64, low, hid, ones, top, up, down, below, level, of_fields, of_bits, lt, eq}
 use lib.Ieee as I
@@ -99,7 +99,7 @@ apart a b = go (ltb a b) (ltb b a) refl refl
     go : (s t : Bool) → ltb a b ≡ s → ltb b a ≡ t → eqb a b ≡ not (s || t)
     go true t e f = let h = ltb-true a b e in ne_eqb a b (λ p. omega arith)
     go false true e f = let h = ltb-true b a f in ne_eqb a b (λ p. omega arith)
-    go false false e f = let h = ltb-false a b e in let k = ltb-false b a f in eq_eqb a b (omega arith)
+    go false false e f = let h = ltb-false a b e in let k = ltb-false b a f in eq-eqb a b (omega arith)
 
 -- ---- the order of two numbers
 

@@ -9,7 +9,7 @@ ghost use Rattle.comparing.specs.Compare.{order_of, test_of, as_unsigned, as_sig
 use value::IrValue;
 
 // What one number is to another.
-#[derive(Drop)]
+#[derive(Clone, Copy)]
 pub enum Order {
     Less,
     Equal,
@@ -18,7 +18,7 @@ pub enum Order {
 }
 
 // A test of an order.
-#[derive(Drop)]
+#[derive(Clone, Copy)]
 pub enum Test {
     Eq,
     Ne,
@@ -29,13 +29,13 @@ pub enum Test {
 }
 
 // The number of a value of the unsigned family, or of the signed.
-#[derive(Drop)]
+#[derive(Clone, Copy)]
 pub enum AsU64 {
     Is(u64),
     Other,
 }
 
-#[derive(Drop)]
+#[derive(Clone, Copy)]
 pub enum AsI64 {
     Is(i64),
     Other,

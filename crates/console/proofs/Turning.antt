@@ -8,7 +8,7 @@ use mathlib.Core.List.{List}
 use lib.ListN.{length, take, replicate, length-take}
 use lib.Seq.{sets}
 use lib.Dec.{eqb}
-use borrow.Author.Tests.{eq_eqb, ne_eqb, lt-ltb, le-ltb, le-leb, lt-leb}
+use borrow.Author.Tests.{eq-eqb, ne_eqb, lt-ltb, le-ltb, le-leb, lt-leb}
 use Rattle.words.specs.Text.{Text, text, put}
 use Rattle.words.specs.Words.{words}
 use Rattle.words.specs.declared.Written.TheVariants.{To}
@@ -101,11 +101,11 @@ module _ (before : List ℕ) (t : State) {r : Told} {w : Written} {after : List 
 module _ (before image : List ℕ) (a : Asked) (ts bs : List ℕ) (t : State) {x : Left} where
   pub is-start : a.command ≡ 5 → x ≡ leaving before (T.start_done image a ts bs t) → x ≡ leaving before (T.ran_of image a ts bs t)
   unfolding T.ran_of
-  is-start e h = rw (eq_eqb a.command 5 e) h
+  is-start e h = rw (eq-eqb a.command 5 e) h
 
   pub is-step : a.command ≡ 6 → x ≡ leaving before (T.step_done image t) → x ≡ leaving before (T.ran_of image a ts bs t)
   unfolding T.ran_of
-  is-step e h = let q : eqb a.command 5 ≡ false = ap (λ (k : ℕ). eqb k 5) e in rw (q, eq_eqb a.command 6 e) h
+  is-step e h = let q : eqb a.command 5 ≡ false = ap (λ (k : ℕ). eqb k 5) e in rw (q, eq-eqb a.command 6 e) h
 
   pub is-run : (a.command ≡ 5 → ⊥) → (a.command ≡ 6 → ⊥) → x ≡ leaving before (T.run_done image a t) → x ≡ leaving before (T.ran_of image a ts bs t)
   unfolding T.ran_of
@@ -114,18 +114,18 @@ module _ (before image : List ℕ) (a : Asked) (ts bs : List ℕ) (t : State) {x
 module _ (before : List ℕ) (a : Asked) (bytes : List ℕ) (t : State) {x : Left} where
   pub is-fresh : a.command ≡ 1 → x ≡ leaving before (T.fresh_done t) → x ≡ leaving before (T.changed_of a bytes t)
   unfolding T.changed_of
-  is-fresh e h = rw (eq_eqb a.command 1 e) h
+  is-fresh e h = rw (eq-eqb a.command 1 e) h
 
   pub is-allocate : a.command ≡ 2 → x ≡ leaving before (T.allocate_done a t) → x ≡ leaving before (T.changed_of a bytes t)
   unfolding T.changed_of
-  is-allocate e h = let q : eqb a.command 1 ≡ false = ap (λ (k : ℕ). eqb k 1) e in rw (q, eq_eqb a.command 2 e) h
+  is-allocate e h = let q : eqb a.command 1 ≡ false = ap (λ (k : ℕ). eqb k 1) e in rw (q, eq-eqb a.command 2 e) h
 
   pub is-write : a.command ≡ 3 → x ≡ leaving before (T.write_done a bytes t) → x ≡ leaving before (T.changed_of a bytes t)
   unfolding T.changed_of
   is-write e h =
       let q : eqb a.command 1 ≡ false = ap (λ (k : ℕ). eqb k 1) e in
       let r : eqb a.command 2 ≡ false = ap (λ (k : ℕ). eqb k 2) e in
-      rw (q, r, eq_eqb a.command 3 e) h
+      rw (q, r, eq-eqb a.command 3 e) h
 
   pub is-poke : (a.command ≡ 1 → ⊥) → (a.command ≡ 2 → ⊥) → (a.command ≡ 3 → ⊥) → x ≡ leaving before (T.poke_done a t) → x ≡ leaving before (T.changed_of a bytes t)
   unfolding T.changed_of
@@ -134,18 +134,18 @@ module _ (before : List ℕ) (a : Asked) (bytes : List ℕ) (t : State) {x : Lef
 module _ (before image : List ℕ) (a : Asked) (t : State) {x : Text} where
   pub is-reading : a.command ≡ 4 → x ≡ line (T.read_line_of a image t) before → x ≡ line (T.looked_of a image t) before
   unfolding T.looked_of
-  is-reading e h = rw (eq_eqb a.command 4 e) h
+  is-reading e h = rw (eq-eqb a.command 4 e) h
 
   pub is_live : a.command ≡ 8 → x ≡ line (live_line_of a.first t) before → x ≡ line (T.looked_of a image t) before
   unfolding T.looked_of
-  is_live e h = let q : eqb a.command 4 ≡ false = ap (λ (k : ℕ). eqb k 4) e in rw (q, eq_eqb a.command 8 e) h
+  is_live e h = let q : eqb a.command 4 ≡ false = ap (λ (k : ℕ). eqb k 4) e in rw (q, eq-eqb a.command 8 e) h
 
   pub is-rewrite : a.command ≡ 9 → x ≡ line (T.rewrite_line_of a image) before → x ≡ line (T.looked_of a image t) before
   unfolding T.looked_of
   is-rewrite e h =
       let q : eqb a.command 4 ≡ false = ap (λ (k : ℕ). eqb k 4) e in
       let r : eqb a.command 8 ≡ false = ap (λ (k : ℕ). eqb k 8) e in
-      rw (q, r, eq_eqb a.command 9 e) h
+      rw (q, r, eq-eqb a.command 9 e) h
 
   pub is-dump : (a.command ≡ 4 → ⊥) → (a.command ≡ 8 → ⊥) → (a.command ≡ 9 → ⊥) → x ≡ line (T.dump_line_of t) before → x ≡ line (T.looked_of a image t) before
   unfolding T.looked_of
@@ -215,7 +215,7 @@ module _ (a : Asked) (ts bs image bytes : List ℕ) (t : State) (before : List �
   module _ {r : Told} {w : Written} {after : List ℕ} where
     pub is_read_command : a.command ≡ 4 → r ≡ told (registers_of t) w → text w after ≡ line (T.looked_of a image t) before → left_by_lem r after ≡ done_by
     unfolding T.machine_of T.runs T.looks
-    is_read_command e d h = rw (lt-leb 5 a.command (omega (arith, e)), eq_eqb a.command 4 e) (tells before d (T.looked_of a image t) h)
+    is_read_command e d h = rw (lt-leb 5 a.command (omega (arith, e)), eq-eqb a.command 4 e) (tells before d (T.looked_of a image t) h)
 
     pub is_look : 8 ≤ a.command → a.command < 11 → r ≡ told (registers_of t) w → text w after ≡ line (T.looked_of a image t) before → left_by_lem r after ≡ done_by
     unfolding T.machine_of T.runs T.looks
@@ -242,7 +242,7 @@ module _ (n : ℕ) (a : Asked) (ts bs image bytes : List ℕ) (t : State) (befor
       ≡ keeping before (T.performed_of n a ts bs image bytes t)
   unfolding T.performed_of
   is-image {stored = stored} {k} e i h d q =
-      rw (eq_eqb a.command 0 e)
+      rw (eq-eqb a.command 0 e)
       (keeps q stored bytes (tells before d (image_line k) h) ∙ ap (λ (y : List ℕ). kept_from (leaving before (still t (image_line k))) k y bytes) i.1
       ∙ ap (λ (j : ℕ). keeping before (T.image_taken j image bytes t)) i.0)
 
@@ -263,7 +263,7 @@ module _ (n : ℕ) (a : Asked) (ts bs image bytes : List ℕ) (t : State) (befor
 
   pub is_read : {x : Kept} → a.bad ≡ 0 → x ≡ keeping before (T.performed_of n a ts bs image bytes t) → x ≡ keeping before (T.read_of n a ts bs image bytes t)
   unfolding T.read_of
-  is_read z h = rw (eq_eqb a.bad 0 z) h
+  is_read z h = rw (eq-eqb a.bad 0 z) h
 
 -- ---- a whole line
 

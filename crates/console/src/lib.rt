@@ -1,4 +1,6 @@
 // What each command of the console does, on the machine and the image of a session.
+#![tactic(auto)]
+
 mod changing;
 mod looking;
 mod running;
@@ -11,14 +13,14 @@ use memory::Registers;
 use words::Written;
 
 // What a command of the machine leaves: its registers, and where the answer ends.
-#[derive(Drop)]
+#[derive(Clone, Copy)]
 pub struct Told {
     pub m: Registers,
     pub text: Written,
 }
 
 // What a line leaves: the machine's registers, how long the image is, and where the answer ends.
-#[derive(Drop)]
+#[derive(Clone, Copy)]
 pub struct Turn {
     pub m: Registers,
     pub image: usize,

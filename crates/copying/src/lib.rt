@@ -1,4 +1,6 @@
 // Bytes copied from one pointer's place to another's, as they were before the copy.
+#![tactic(auto)]
+
 ghost use Rattle.std.specs.Prelude.{◌≡◌, ◌+◌, ◌≤◌, length, take, drop, replicate};
 ghost use Rattle.std.proofs.Math.Seq.{paste};
 ghost use Rattle.memory.specs.Tables.{tables, both, written_of, constant_of, written_after, copied_of};

@@ -6,7 +6,7 @@ use mathlib.Core.List.{List}
 use mathlib.Core.Path.{◌≡◌, refl, ap, ◌∙◌}
 use lib.ListN.{length}
 use lib.Dec.{eqb}
-use borrow.Author.Tests.{eq_eqb, ne_eqb}
+use borrow.Author.Tests.{eq-eqb, ne_eqb}
 use Rattle.value.specs.Answer.{pick}
 use Rattle.value.specs.Refusal.{not_sound}
 use Rattle.image.specs.Image.{loaded}
@@ -130,7 +130,7 @@ module _ (p : ℕ) (bytes r s f b ps v : List ℕ) where
   pub write-gives : (after : List ℕ) (m : Registers) (o : Outcome) (n : ℕ) → length r ≡ 5 → m ≡ registers_in r
       → both o after ≡ host_written (state (tables m s f b ps) v) p bytes → n ≡ number_of o → both n after ≡ write_called p bytes r s f b ps v
   unfolding write_called
-  write-gives after m o n h e g x = rw (eq_eqb _ _ h, x) (ap numbered (g ∙ ap (λ (x : Registers). host_written (state (tables x s f b ps) v) p bytes) e))
+  write-gives after m o n h e g x = rw (eq-eqb _ _ h, x) (ap numbered (g ∙ ap (λ (x : Registers). host_written (state (tables x s f b ps) v) p bytes) e))
 
 module _ (r s f b ps v live frame allocation offset : List ℕ) where
   pub list_unshaped : (length r ≡ 5 → ⊥) → listed not_sound live frame allocation offset ≡ list_called r s f b ps v live frame allocation offset
@@ -141,7 +141,7 @@ module _ (r s f b ps v live frame allocation offset : List ℕ) where
       → listing o live' frame' allocation' offset' ≡ host_listed (state (tables m s f b ps) v) live frame allocation offset → n ≡ number_of o
       → listed n live' frame' allocation' offset' ≡ list_called r s f b ps v live frame allocation offset
   unfolding list_called
-  list_gives live' frame' allocation' offset' m o n h e g x = rw (eq_eqb _ _ h, x) (ap list_gave (g ∙ ap (λ (x : Registers). host_listed (state (tables x s f b ps) v) live frame allocation offset) e))
+  list_gives live' frame' allocation' offset' m o n h e g x = rw (eq-eqb _ _ h, x) (ap list_gave (g ∙ ap (λ (x : Registers). host_listed (state (tables x s f b ps) v) live frame allocation offset) e))
 
 module _ (s b answer : List ℕ) where
   pub image_unshaped : (length answer ≡ 4 → ⊥) → filled not_sound answer b ≡ image_called s b answer
@@ -151,4 +151,4 @@ module _ (s b answer : List ℕ) where
   pub image-gives : (an after : List ℕ) (r : Written) (a : Reply) → length answer ≡ 4 → r ≡ outcome (loaded s) b → after ≡ buffer (loaded s) b
       → a ≡ reply_written r → an ≡ reply_put a answer → filled a.number an after ≡ image_called s b answer
   unfolding image_called reply_put
-  image-gives an after r a h e f x q = let t = eq_eqb _ _ h in let w : an ≡ reply_words a = q ∙ simp t in rw (t, w, x, e, f) refl
+  image-gives an after r a h e f x q = let t = eq-eqb _ _ h in let w : an ≡ reply_words a = q ∙ simp t in rw (t, w, x, e, f) refl

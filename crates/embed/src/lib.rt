@@ -6,5 +6,7 @@
 // tables     as in `memory`
 //
 // Each function answers 0, or the number of a refusal. A wrong length of registers or answer is 10, and then nothing is changed.
+#![tactic(auto)]
+
 pub mod entries;
 pub mod host;

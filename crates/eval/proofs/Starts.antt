@@ -6,7 +6,7 @@ use mathlib.Core.List.{List}
 use lib.ListN.{length, get_or, take, drop}
 use lib.Dec.{eqb}
 use native.Mathlib.Omega.{arith}
-use borrow.Author.Tests.{lt-ltb, le-ltb, eq_eqb, ne_eqb, le-leb, lt-leb}
+use borrow.Author.Tests.{lt-ltb, le-ltb, eq-eqb, ne_eqb, le-leb, lt-leb}
 use Rattle.value.specs.Refusal.{not_sound, running, no_function, wrong_arguments, not_scalar}
 use Rattle.image.specs.declared.field.Step.TheVariants as step
 use Rattle.loader.specs.Tables.{loaded_from}
@@ -41,11 +41,11 @@ value_short ts bs k h = rw (le-ltb k (length bs) h) refl
 module _ (f : Callee) (n : ℕ) where
   pub wanted_plain : f.flag ≡ 0 → eqb n f.wanted ≡ wanted_of f n
   unfolding wanted_of
-  wanted_plain e = rw (eq_eqb f.flag 0 e) refl
+  wanted_plain e = rw (eq-eqb f.flag 0 e) refl
 
   pub wanted_none : (f.flag ≡ 0 → ⊥) → n ≡ 0 → false ≡ wanted_of f n
   unfolding wanted_of
-  wanted_none e z = rw (ne_eqb f.flag 0 e, eq_eqb n 0 z) refl
+  wanted_none e z = rw (ne_eqb f.flag 0 e, eq-eqb n 0 z) refl
 
   pub wanted_flagged : (f.flag ≡ 0 → ⊥) → (n ≡ 0 → ⊥) → eqb (n - 1) f.wanted ≡ wanted_of f n
   unfolding wanted_of
@@ -61,7 +61,7 @@ wanted_there s functions n ts p f b e d h = sym (h ∙ ap (λ (g : Callee). want
 module _ (m : Registers) (s functions : List ℕ) (n : ℕ) (context : Found) (ts bs : List ℕ) where
   pub start-running : m.running ≡ 1 → running ≡ start_refusal m s functions n context ts bs
   unfolding start_refusal
-  start-running h = rw (eq_eqb m.running 1 h) refl
+  start-running h = rw (eq-eqb m.running 1 h) refl
 
   module _ (h₁ : m.running ≡ 1 → ⊥) where
     pub start_nowhere : length functions ≤ n → no_function ≡ start_refusal m s functions n context ts bs
@@ -105,7 +105,7 @@ module _ (i : Items) (n : ℕ) (context : Found) (ts bs : List ℕ) (t : State) 
         → entering r store frames bounds pointers vars ≡ start_loaded i n context ts bs t
     unfolding start_loaded
     start-begins number e z labels l r p store frames bounds pointers vars a b =
-        rw (h, ← same, ← e, eq_eqb number 0 z, ← l) (ap (λ (x : Entered). entering x store frames bounds pointers vars) a ∙ ap stepped_from b)
+        rw (h, ← same, ← e, eq-eqb number 0 z, ← l) (ap (λ (x : Entered). entering x store frames bounds pointers vars) a ∙ ap stepped_from b)
 
 pub start-taken : (s : List ℕ) (n : ℕ) (context : Found) (ts bs : List ℕ) (t : State) (l : Loaded) (e : ℕ) → l ≡ loaded_from s → l.end ≡ step.At e
     → start_loaded (items_in s l) n context ts bs t ≡ start_entered s n context ts bs t

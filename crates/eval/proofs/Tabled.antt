@@ -7,7 +7,7 @@ use mathlib.Core.List.{List, flatten}
 use lib.ListN.{length, take, drop, replicate, length-replicate}
 use lib.Dec.{eqb}
 use lib.Seq.{length-take-le, length-sets}
-use borrow.Author.Tests.{eq_eqb, ne_eqb}
+use borrow.Author.Tests.{eq-eqb, ne_eqb}
 use Rattle.value.specs.Answer.{pick}
 use Rattle.value.specs.Refusal.{not_sound, idle}
 use Rattle.image.specs.Parse.{Got, took, refused}
@@ -91,7 +91,7 @@ module _ (i : Items) (budget : ℕ) (t : State) where
 
   pub run_on : (j : Items) → j ≡ i → sound_of t ≡ true → t.memory.registers.running ≡ 1 → ran_of j budget 0 t ≡ run_loaded i budget t
   unfolding run_loaded
-  run_on j e h g = simp (h, eq_eqb _ _ g, e)
+  run_on j e h g = simp (h, eq-eqb _ _ g, e)
 
 module _ (i : Items) (p : ℕ) (buffer : List ℕ) (t : State) where
   pub read_unsound : sound_of t ≡ false → read_out (readout.Refused not_sound) buffer ≡ read_loaded i p buffer t

@@ -18,7 +18,7 @@ use value::refusal::{IDLE, NOT_SOUND};
 
 // What a start or a step answers: the registers, or after the last Return its value too, tag 0 for none; or why it was refused,
 // an image by number and place.
-#[derive(Drop)]
+#[derive(Clone, Copy)]
 pub enum Entered {
     Went(Registers),
     Returned(Registers, Found),
@@ -27,7 +27,7 @@ pub enum Entered {
 }
 
 // What a host's read answers.
-#[derive(Drop)]
+#[derive(Clone, Copy)]
 pub enum Readout {
     Done,
     Refused(u64),
@@ -35,7 +35,7 @@ pub enum Readout {
 }
 
 // Where a constant's bytes start in the image, and how many they are.
-#[derive(Drop)]
+#[derive(Clone, Copy)]
 pub struct Extent {
     pub start: usize,
     pub count: u64,

@@ -8,7 +8,7 @@ use lib.Dec.{ltb, eqb}
 use mathlib.Core.Path.{◌≡◌, sym, ◌∙◌}
 use mathlib.Core.List.{List}
 use lib.ListN.{length, get_or}
-use borrow.Author.Tests.{le-leb, lt-leb, lt-ltb, le-ltb, eq_eqb, ne_eqb}
+use borrow.Author.Tests.{le-leb, lt-leb, lt-ltb, le-ltb, eq-eqb, ne_eqb}
 use Rattle.image.specs.Parse.{took, refused}
 use Rattle.value.specs.Answer.{pick}
 use Rattle.image.specs.Number.{groups}
@@ -22,7 +22,7 @@ module _ (start w sum : ℕ) (s : List ℕ) (at : ℕ) where
   pub last_one : (left : ℕ) → left ≤ 0 → at < length s → get_or s at 0 ≡ 1 → groups left start w sum s at ≡ took (sum + w) (at + 1)
   unfolding groups
   last_one (suc l) z h e = absurd (omega arith)
-  last_one zero z h e = rw (lt-leb (length s) at h, eq_eqb (get_or s at 0) 1 e)
+  last_one zero z h e = rw (lt-leb (length s) at h, eq-eqb (get_or s at 0) 1 e)
 
   pub last-bad : (left : ℕ) → left ≤ 0 → at < length s → (get_or s at 0 ≡ 1 → ⊥) → groups left start w sum s at ≡ refused 2 start
   unfolding groups
@@ -39,7 +39,7 @@ module _ (start w sum : ℕ) (s : List ℕ) (at : ℕ) where
   unfolding groups
   padded zero p q h e = absurd (omega arith)
   padded (suc l) p q h e =
-      rw (lt-leb (length s) at h, lt-ltb (get_or s at 0) 128 (omega arith), eq_eqb (get_or s at 0) 0 e, lt-ltb l 8 (omega arith))
+      rw (lt-leb (length s) at h, lt-ltb (get_or s at 0) 128 (omega arith), eq-eqb (get_or s at 0) 0 e, lt-ltb l 8 (omega arith))
 
   pub ends : (left : ℕ) → 0 < left → at < length s → get_or s at 0 < 128 → (get_or s at 0 ≡ 0 → 9 ≤ left)
       → groups left start w sum s at ≡ took (sum + get_or s at 0 * w) (at + 1)
@@ -51,7 +51,7 @@ module _ (start w sum : ℕ) (s : List ℕ) (at : ℕ) where
       zero_case : Dec (get_or s at 0 ≡ 0)
           → pick (eqb (get_or s at 0) 0) (pick (ltb l 8) (refused 2 start) (took (sum + get_or s at 0 * w) (at + 1))) (took (sum + get_or s at 0 * w) (at + 1))
           ≡ took (sum + get_or s at 0 * w) (at + 1)
-      zero_case (yes e) = rw (eq_eqb (get_or s at 0) 0 e, le-ltb l 8 (omega (arith, z e)))
+      zero_case (yes e) = rw (eq-eqb (get_or s at 0) 0 e, le-ltb l 8 (omega (arith, z e)))
       zero_case (no e) = rw (ne_eqb (get_or s at 0) 0 e)
 
   -- the same with the byte as the code has it

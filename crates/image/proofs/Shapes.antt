@@ -8,7 +8,7 @@ use mathlib.Core.List.{List, [], ◌∷◌, map}
 use mathlib.Core.Option.{Option, none, some}
 use lib.ListN.{length, get_or}
 use lib.Dec.{ltb, leb, eqb, leb-suc-suc}
-use borrow.Author.Tests.{eq_eqb, ne_eqb, leb-true, lt-ltb, le-ltb}
+use borrow.Author.Tests.{eq-eqb, ne_eqb, leb-true, lt-ltb, le-ltb}
 use Rattle.value.specs.Answer.{pick}
 use Rattle.value.specs.Refusal.{unknown}
 use Rattle.value.specs.Tags.{type_at}
@@ -134,7 +134,7 @@ module _ {A : Type 0} (s : List ℕ) (p : Field A) (c : Step) where
   -- the mark is 0
   pub optional-none : {v : ℕ} → v ≡ or_else 0 (after c (up_to s 1 unknown)) → v ≡ 0 → walk (optional s p) c ≡ walk (up_to s 1 unknown) c
   unfolding optional
-  optional-none {v} e z = ap shape (next c (up_to s 1 unknown) 0 _) ∙ by_step (walk (up_to s 1 unknown) c) (eq_eqb _ 0 (sym e ∙ z))
+  optional-none {v} e z = ap shape (next c (up_to s 1 unknown) 0 _) ∙ by_step (walk (up_to s 1 unknown) c) (eq-eqb _ 0 (sym e ∙ z))
     where
       by_step : (d : Step) {b : Bool} → b ≡ true → walk (pick b (give none) (some <$> p)) d ≡ d
       by_step (At n) h = rw h

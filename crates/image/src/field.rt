@@ -11,7 +11,7 @@ use value::refusal::{BYTES_RUN_OUT, LEFT_OVER, UNKNOWN};
 use value::{IrType, IrValue, Tagged};
 
 // The place after the fields that were read, or the first refusal's number and place.
-#[derive(Drop)]
+#[derive(Clone, Copy)]
 pub enum Step {
     At(usize),
     Stop(u64, usize),

@@ -6,7 +6,7 @@ ghost use Rattle.image.specs.Answer.{got, Stored};
 use value::refusal::{BYTES_RUN_OUT, MALFORMED};
 
 // A number and the place after it, or a refusal's number and place.
-#[derive(Drop)]
+#[derive(Clone, Copy)]
 pub enum Number {
     Value(u64, usize),
     Bad(u64, usize),
@@ -54,7 +54,7 @@ pub fn read_number(image: &[u8], start: usize) -> Number
 }
 
 // The place after the bytes that were written, or that they have no room.
-#[derive(Drop)]
+#[derive(Clone, Copy)]
 pub enum Written {
     To(usize),
     Full,

@@ -5,7 +5,7 @@ use image::field::Step;
 use loader::load::load;
 
 // A refusal, or 0 and 0.
-#[derive(Drop)]
+#[derive(Clone, Copy)]
 pub struct Answer {
     pub number: u64,
     pub place: u64,
@@ -85,7 +85,7 @@ fn print_right(right: u64, lines: u64) {
 }
 
 // The line that is read, how many were, and how many of them agree.
-#[derive(Drop)]
+#[derive(Clone, Copy)]
 pub struct Progress {
     pub line: Line,
     pub lines: u64,

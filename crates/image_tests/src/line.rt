@@ -2,7 +2,7 @@
 // pieces joined by `+`: hex digits, or hex digits, `*` and how often.
 
 // What is read of a line: the field that it is in, and the fields so far. The image's bytes go into a buffer.
-#[derive(Drop)]
+#[derive(Clone, Copy)]
 pub struct Line {
     pub field: u64,
     pub length: usize,

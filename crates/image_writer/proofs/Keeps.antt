@@ -8,7 +8,7 @@ use mathlib.Core.Logic.{inl, inr}
 use types.Run.{OneOf}
 use mathlib.Core.List.{List, [], ◌∷◌, ◌++◌, append_assoc}
 use lib.ListN.{length, take, drop, length-append, length-drop, take-append-drop}
-use borrow.Author.Tests.{le-leb, lt-leb, eq_eqb, ne_eqb}
+use borrow.Author.Tests.{le-leb, lt-leb, eq-eqb, ne_eqb}
 use lib.Seq.{sets-eq, length-take-le, take_at, drop-drop, take-add, take-append_seam, drop-append-add}
 use Rattle.image.specs.Parse.{Got, took, refused, and_then}
 use Rattle.image.specs.Number.{number, bytes_of}
@@ -179,7 +179,7 @@ module _ {s : List ℕ} (past : ℕ → ℕ) {c : Pass} {before : List ℕ} wher
   module _ {d : Pass} {mid : List ℕ} (h : Passed s (past_number s) c before d mid) (v : d.value ≡ number_at s c.from) where
     pub absent_passed : d.value ≡ 0 → Passed s (past_optional s past) c before d mid
     unfolding past_optional
-    absent_passed z = record { place = rw (eq_eqb (number_at s c.from) 0 (sym v ∙ z)) h.place; keeps = h.keeps }
+    absent_passed z = record { place = rw (eq-eqb (number_at s c.from) 0 (sym v ∙ z)) h.place; keeps = h.keeps }
 
     pub present_passed : {r : Pass} {after : List ℕ} → (d.value ≡ 0 → ⊥) → Passed s past d mid r after → Passed s (past_optional s past) c before r after
     unfolding past_optional

@@ -10,7 +10,7 @@ use loader::load::load;
 use value::refusal::SHORT_BUFFER;
 
 // Where reading stands in the image and writing in the buffer, and the last number that was read.
-#[derive(Drop)]
+#[derive(Clone, Copy)]
 pub struct Pass {
     pub value: u64,
     pub from: usize,
@@ -382,7 +382,7 @@ fn pass_whole(image: &[u8], out: &mut [u8], c: Pass) -> Pass
 }
 
 // How many bytes were written; or the refusal: of the image with its place, or of the buffer.
-#[derive(Drop)]
+#[derive(Clone, Copy)]
 pub enum Outcome {
     Done(usize),
     Refused(u64, usize),

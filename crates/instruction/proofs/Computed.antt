@@ -5,7 +5,7 @@ use mathlib.Core.Bool.{Bool, true, false}
 use mathlib.Core.Path.{◌≡◌, refl, sym, ap, ◌∙◌, subst}
 use mathlib.Core.Option.{Option, none, some}
 use lib.Dec.{eqb}
-use borrow.Author.Tests.{eq_eqb, ne_eqb, lt-ltb}
+use borrow.Author.Tests.{eq-eqb, ne_eqb, lt-ltb}
 use Rattle.value.specs.Refusal.{not_sound, no_instruction}
 use Rattle.value.specs.Answer.{Answer, ok, refused, need, pick, ◌>>=◌}
 use Rattle.value.specs.Value.{Value, value, Kind, tag, IntCmp, Eq, Ne, ULt, ULe, UGt, UGe, SLt, SLe, SGt, SGe, FloatCmp, FEq, FNe, FLt, FLe, FGt, FGe, compare_ints, compare_floats, divide_floats, size}
@@ -54,7 +54,7 @@ module _ (y : Found) where
   -- a refusal, found again
   pub refused-first : y.tag ≡ 0 → answer_of y ≡ refused y.bits
   unfolding answer_of
-  refused-first e = rw (eq_eqb y.tag 0 e)
+  refused-first e = rw (eq-eqb y.tag 0 e)
 
   pub value-first : (y.tag ≡ 0 → ⊥) → (v : IrValue) → made (kind_at y.tag) y.bits ≡ M.Value v → answer_of y ≡ ok (value_of v)
   unfolding answer_of

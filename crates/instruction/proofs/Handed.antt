@@ -3,7 +3,7 @@ use Prim.Native.Nat.{ℕ}
 use mathlib.Core.Bool.{false}
 use mathlib.Core.Path.{◌≡◌, sym, ap, ◌∙◌}
 use mathlib.Core.List.{List}
-use borrow.Author.Tests.{eq_eqb, ne_eqb}
+use borrow.Author.Tests.{eq-eqb, ne_eqb}
 use Rattle.value.specs.Refusal.{not_sound, wrong_kinds}
 use Rattle.value.specs.Answer.{Answer, ok, need, ◌>>=◌}
 use Rattle.value.specs.Value.{Value, same, tag, pointer}
@@ -62,7 +62,7 @@ module _ (m : Registers) (s ps vars : List ℕ) (at : ℕ) (to : Field) (e : to 
       (h : x ≡ evaluated vars from) (i : p ≡ found_of (as_pointer_of x)) where
     pub not-offset : p.tag ≡ 0 → pointed (Refused p.bits) ps vars ≡ offsetted_of m s ps vars at
     unfolding offsetted_of
-    not-offset n = simp (← e, ← d, ← h, ← i, eq_eqb _ _ n)
+    not-offset n = simp (← e, ← d, ← h, ← i, eq-eqb _ _ n)
 
     pub offsetted : (p.tag ≡ 0 → ⊥) → (g : Given) (ps' : List ℕ) (a : Progress) (vars' : List ℕ) → both g ps' ≡ offset_of m p.bits by.value ps
         → both a vars' ≡ pointed_of g vars to.value → pointed a ps' vars' ≡ offsetted_of m s ps vars at

@@ -4,7 +4,7 @@ use native.Mathlib.Numerals.{sub-one}
 use native.Mathlib.Omega.{arith}
 use mathlib.Core.Path.{◌≡◌, refl}
 use mathlib.Core.List.{List}
-use borrow.Author.Tests.{eq_eqb, ne_eqb}
+use borrow.Author.Tests.{eq-eqb, ne_eqb}
 use Rattle.instruction.specs.Decode.{field_at}
 use Rattle.instruction.specs.Code.{branch_of}
 use Rattle.instruction.specs.declared.field.Field.{Field}
@@ -15,7 +15,7 @@ module _ (s : List ℕ) (bits at : ℕ) (k l : Field) (e : k ≡ field_at s at) 
   pub branch-hit : (n : ℕ) → 0 < n → k.value ≡ bits → branch_of s n bits at ≡ l
   unfolding branch_of
   branch-hit zero p h = absurd (omega arith)
-  branch-hit (suc n) p h = simp (← e, ← f, eq_eqb _ _ h)
+  branch-hit (suc n) p h = simp (← e, ← f, eq-eqb _ _ h)
 
   pub branch_on : (n : ℕ) → 0 < n → (k.value ≡ bits → ⊥) → branch_of s n bits at ≡ branch_of s (n - 1) bits l.next
   unfolding branch_of

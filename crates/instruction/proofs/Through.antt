@@ -7,7 +7,7 @@ use mathlib.Core.List.{List, [], ◌∷◌, ◌++◌, append-nil}
 use mathlib.Core.Option.{Option, none, some}
 use lib.ListN.{length, take, drop, replicate, length-replicate, length-append}
 use lib.Seq.{take_at, length-take-le}
-use borrow.Author.Tests.{eq_eqb, ne_eqb, le-leb, lt-ltb, le-ltb}
+use borrow.Author.Tests.{eq-eqb, ne_eqb, le-leb, lt-ltb, le-ltb}
 use Rattle.value.specs.Refusal.{not_sound, no_instruction, bytes_exceed_size}
 use Rattle.value.specs.Answer.{Answer, ok, refused, need}
 use Rattle.value.specs.Value.{Value, u64, i64, f64, pointer, IrType, Boolean, U8, U16, U32, U64, I8, I16, I32, I64, F32, F64, Pointer, kind_of, tag, size, bytes_of, from_bytes}
@@ -29,7 +29,7 @@ use Rattle.machine.proofs.Values.{Keeps, kept, Good, read-good}
 use Rattle.memory.specs.Tables.{Tables, Both, both, tables, out, read_access_of, constant_access_of, constant_of, taken_at, get_at, read_of, allocated_of, written_of, copied_of}
 use Rattle.memory.specs.declared.Registers.{Registers}
 use Rattle.memory.specs.declared.Given.{Given}
-use Rattle.memory.specs.declared.Given.TheVariants as goal
+use Rattle.memory.specs.declared.Given.TheVariants as given
 use Rattle.memory.specs.declared.Source.{Source}
 use Rattle.memory.specs.declared.Source.TheVariants as source
 use Rattle.memory.specs.declared.Place.{Place}
@@ -125,7 +125,7 @@ module _ (t : Tables) (p : ℕ) (v : Found) where
 module _ (t : Tables) (s vars : List ℕ) (at : ℕ) (to : Operand) (e : to ≡ operand_at s at) (x p : Found) (d : x ≡ evaluated vars to) (f : p ≡ found_of (as_pointer_of x)) where
   pub not_wrote : p.tag ≡ 0 → both (Refused p.bits) t.store ≡ write_of t s vars at
   unfolding write_of
-  not_wrote n = simp (← e, ← d, ← f, eq_eqb _ _ n)
+  not_wrote n = simp (← e, ← d, ← f, eq-eqb _ _ n)
 
   pub wrote : (p.tag ≡ 0 → ⊥) → (what : Operand) (v : Found) (r : Outcome) (store : List ℕ) (a : Progress) → what ≡ operand_at s to.next → v ≡ evaluated vars what
       → both r store ≡ stored_of t p.bits v → a ≡ progress_of t.registers r → both a store ≡ write_of t s vars at
@@ -226,7 +226,7 @@ module _ (t : Tables) (s extents vars : List ℕ) (at : ℕ) (to : Field) (from 
     (e : to ≡ field_at s at) (d : from ≡ operand_at s to.next) (f : type ≡ field_at s from.next) (g : x ≡ evaluated vars from) (h : p ≡ found_of (as_pointer_of x)) where
   pub no_place : p.tag ≡ 0 → both (Refused p.bits) vars ≡ reading_of t s extents vars at
   unfolding reading_of
-  no_place n = simp (← e, ← d, ← g, ← h, eq_eqb _ _ n)
+  no_place n = simp (← e, ← d, ← g, ← h, eq-eqb _ _ n)
 
   pub no_type : (p.tag ≡ 0 → ⊥) → tagged (type_at type.value) ≡ Tg.Nothing → both (Refused no_instruction) vars ≡ reading_of t s extents vars at
   unfolding reading_of finished_of
@@ -241,19 +241,19 @@ module _ (t : Tables) (s extents vars : List ℕ) (at : ℕ) (to : Field) (from 
 -- ---- Initialize
 
 module _ (t : Tables) (n : ℕ) (bytes : List ℕ) (g : Given) (s f b p : List ℕ) (e : out g s f b p ≡ allocated_of t n) where
-  pub not_made : (number : ℕ) → g ≡ goal.Refused number → out (goal.Refused number) s f b p ≡ made_of t n bytes
+  pub not_made : (number : ℕ) → g ≡ given.Refused number → out (given.Refused number) s f b p ≡ made_of t n bytes
   unfolding made_of
   not_made number d = simp (← e, d)
 
-  module _ (q : ℕ) (m : Registers) (d : g ≡ goal.Made q m) (r : Outcome) (s' : List ℕ) (h : both r s' ≡ written_of (tables m s f b p) q bytes) where
+  module _ (q : ℕ) (m : Registers) (d : g ≡ given.Made q m) (r : Outcome) (s' : List ℕ) (h : both r s' ≡ written_of (tables m s f b p) q bytes) where
     filled : out (given_by r q m) s' f b p ≡ made_of t n bytes
     unfolding made_of
     filled = simp (← e, d, ← h)
 
-    pub made-filled : r ≡ outcome.Done → out (goal.Made q m) s' f b p ≡ made_of t n bytes
+    pub made-filled : r ≡ outcome.Done → out (given.Made q m) s' f b p ≡ made_of t n bytes
     made-filled i = sym (ap (λ (o : Outcome). out (given_by o q m) s' f b p) i) ∙ filled
 
-    pub not-filled : (number : ℕ) → r ≡ outcome.Refused number → out (goal.Refused number) s' f b p ≡ made_of t n bytes
+    pub not-filled : (number : ℕ) → r ≡ outcome.Refused number → out (given.Refused number) s' f b p ≡ made_of t n bytes
     not-filled number i = sym (ap (λ (o : Outcome). out (given_by o q m) s' f b p) i) ∙ filled
 
 module _ (t : Tables) (s vars : List ℕ) (at : ℕ) (to n count : Field) (e : to ≡ field_at s at) (d : n ≡ field_at s to.next) (f : count ≡ field_at s n.next) where
@@ -286,12 +286,12 @@ module _ (t : Tables) (s extents vars : List ℕ) (at : ℕ) (to from : Operand)
     (f : x ≡ evaluated vars to) (g : p ≡ found_of (as_pointer_of x)) where
   pub no_to : p.tag ≡ 0 → both (Refused p.bits) t.store ≡ copying_of t s extents vars at
   unfolding copying_of
-  no_to n = simp (← e, ← d, ← f, ← g, eq_eqb _ _ n)
+  no_to n = simp (← e, ← d, ← f, ← g, eq-eqb _ _ n)
 
   module _ (n : p.tag ≡ 0 → ⊥) (y q : Found) (h : y ≡ evaluated vars from) (i : q ≡ found_of (as_pointer_of y)) where
     pub no_from : q.tag ≡ 0 → both (Refused q.bits) t.store ≡ copying_of t s extents vars at
     unfolding copying_of
-    no_from j = simp (← e, ← d, ← f, ← g, ne_eqb _ _ n, ← h, ← i, eq_eqb _ _ j)
+    no_from j = simp (← e, ← d, ← f, ← g, ne_eqb _ _ n, ← h, ← i, eq-eqb _ _ j)
 
     pub copied : (q.tag ≡ 0 → ⊥) → (count : Field) → count ≡ field_at s from.next → (r : Outcome) (store : List ℕ) → both r store ≡ copied_of t p.bits q.bits count.value s extents
         → (a : Progress) → a ≡ progress_of t.registers r → both a store ≡ copying_of t s extents vars at

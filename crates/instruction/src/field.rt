@@ -5,14 +5,14 @@ ghost use Rattle.instruction.specs.Decode.{field_at, operand_at};
 use image::number::{Number, read_number};
 
 // A number and the place after it. Place 0 is no field's: refused, and so is what is read from there.
-#[derive(Drop)]
+#[derive(Clone, Copy)]
 pub struct Field {
     pub value: u64,
     pub next: usize,
 }
 
 // An operand's tag and its variable or bits, and the place after it.
-#[derive(Drop)]
+#[derive(Clone, Copy)]
 pub struct Operand {
     pub tag: u64,
     pub bits: u64,

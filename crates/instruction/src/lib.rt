@@ -1,4 +1,6 @@
 // The instructions, from lir/eval.rs: what each does to registers and tables, by the fields that stand at its place.
+#![tactic(auto)]
+
 pub mod back;
 pub mod compute;
 pub mod field;

@@ -14,7 +14,7 @@ use value::IrType;
 use value::refusal::{NO_INSTRUCTION, WRONG_KINDS};
 
 // The registers after a step; or after the last Return, with its value, tag 0 for none.
-#[derive(Drop)]
+#[derive(Clone, Copy)]
 pub enum Progress {
     Next(Registers),
     Ended(Registers, Found),
@@ -22,7 +22,7 @@ pub enum Progress {
 }
 
 // What a look over the bytes of many branches finds.
-#[derive(Drop)]
+#[derive(Clone, Copy)]
 struct Seen {
     greatest: u8,
     first: u8,

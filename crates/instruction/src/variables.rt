@@ -6,7 +6,7 @@ use crate::field::Operand;
 use value::refusal::{NEVER_SET, NO_INSTRUCTION};
 
 // A value's tag and bits. Tag 0: refused, with the number in bits.
-#[derive(Drop)]
+#[derive(Clone, Copy)]
 pub struct Found {
     pub tag: u64,
     pub bits: u64,

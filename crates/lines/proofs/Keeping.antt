@@ -7,7 +7,7 @@ use mathlib.Core.Path.{◌≡◌, refl, sym, ap, ◌∙◌}
 use mathlib.Core.List.{List, [], ◌∷◌}
 use lib.ListN.{length, take, drop, set, length-take, length-set, length-drop, drop_of_length-le}
 use lib.Seq.{sets, set_out, take-nil, take-take, take_all}
-use borrow.Author.Tests.{le-leb, lt-ltb, le-ltb, eq_eqb, ne_eqb}
+use borrow.Author.Tests.{le-leb, lt-ltb, le-ltb, eq-eqb, ne_eqb}
 use Rattle.words.specs.Text.{Text, text, put}
 use Rattle.words.specs.Words.{until}
 use Rattle.words.specs.declared.Written.{Written}
@@ -136,7 +136,7 @@ module _ (l s : List ℕ) (kept at from : ℕ) (h : from ≡ min kept (length l)
 
 pub no_byte : (kept : ℕ) → kept ≡ 0 → record { length = 0; at = 0; whole = 0 } ≡ held_at_end kept
 unfolding held_at_end
-no_byte kept e = rw (eq_eqb kept 0 e, e) refl
+no_byte kept e = rw (eq-eqb kept 0 e, e) refl
 
 pub some_byte : (kept : ℕ) → (kept ≡ 0 → ⊥) → record { length = kept; at = 0; whole = 1 } ≡ held_at_end kept
 unfolding held_at_end

@@ -8,7 +8,7 @@ use mathlib.Core.Path.{◌≡◌, refl, sym, ap, ap₂, ◌∙◌}
 use mathlib.Core.List.{List, [], ◌∷◌, ◌++◌, map, flatten, append_assoc, append-nil}
 use lib.ListN.{length, take, drop, length-take, length-append, length-drop}
 use lib.Seq.{sets, sets-eq, take_all, take_at, take-append-add, length-take-le, drop-drop}
-use borrow.Author.Tests.{eq_eqb, ne_eqb, lt-ltb, le-ltb}
+use borrow.Author.Tests.{eq-eqb, ne_eqb, lt-ltb, le-ltb}
 use Rattle.words.specs.Words.{until, parts, lines}
 use Rattle.words.proofs.Parting.{until-within, first_part, last-part}
 use Rattle.lines.specs.Held.{line_in, held_after}
@@ -34,7 +34,7 @@ module _ (room : ℕ) where
   taken-whole kept [] h l = absurd (omega arith)
   taken-whole kept (b ∷ s) h l =
       elim (ℕ_discrete b 10) [
-        | yes e ↦ rw (eq_eqb b 10 e) (ap (λ (k : List ℕ). and_then k (taken room [] s)) (sym (ap (take room) (append-nil kept) ∙ take_all room kept h)))
+        | yes e ↦ rw (eq-eqb b 10 e) (ap (λ (k : List ℕ). and_then k (taken room [] s)) (sym (ap (take room) (append-nil kept) ∙ take_all room kept h)))
         | no e ↦
             rw (ne_eqb b 10 e)
             (taken-whole (take room (kept ++ (b ∷ []))) s (fits (kept ++ (b ∷ []))) (less (rw (ne_eqb b 10 e) at l))
@@ -52,7 +52,7 @@ module _ (room : ℕ) where
   taken-part kept [] h l = ap no_line (sym (ap (take room) (append-nil kept) ∙ take_all room kept h))
   taken-part kept (b ∷ s) h l =
       elim (ℕ_discrete b 10) [
-        | yes e ↦ absurd (none (rw (eq_eqb b 10 e) at l))
+        | yes e ↦ absurd (none (rw (eq-eqb b 10 e) at l))
         | no e ↦
             rw (ne_eqb b 10 e)
             (taken-part (take room (kept ++ (b ∷ []))) s (fits (kept ++ (b ∷ []))) (less (rw (ne_eqb b 10 e) at l)) ∙ ap no_line (more kept s b))
@@ -144,7 +144,7 @@ module _ (room : ℕ) where
   taken-append kept [] b = refl
   taken-append kept (x ∷ a) b =
       elim (ℕ_discrete x 10) [
-        | yes e ↦ rw (eq_eqb x 10 e) (ap (and_then kept) (taken-append [] a b))
+        | yes e ↦ rw (eq-eqb x 10 e) (ap (and_then kept) (taken-append [] a b))
         | no e ↦ rw (ne_eqb x 10 e) (taken-append (take room (kept ++ (x ∷ []))) a b)
       ]
 

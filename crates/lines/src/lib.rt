@@ -1,4 +1,6 @@
 // The lines of an input that comes in parts.
+#![tactic(auto)]
+
 ghost use Rattle.std.specs.Prelude.{◌≡◌, length, drop};
 ghost use Rattle.std.proofs.lemmas.List.Edits.{sets};
 ghost use Rattle.lines.specs.Held.{line_in, held_after, held_at_end};
@@ -10,7 +12,7 @@ use words::word::find;
 
 // The line that is being read: how many of its bytes are kept, and the place after the input's bytes that were taken. `whole` is 1 where
 // the line is at its end.
-#[derive(Drop)]
+#[derive(Clone, Copy)]
 pub struct Held {
     pub length: usize,
     pub at: usize,

@@ -6,7 +6,7 @@ use mathlib.Core.Path.{◌≡◌, refl, sym, ap, ap₂, ◌∙◌, subst}
 use mathlib.Core.List.{List, [], ◌∷◌, map}
 use lib.ListN.{length}
 use lib.Dec.{eqb}
-use borrow.Author.Tests.{eq_eqb}
+use borrow.Author.Tests.{eq-eqb}
 use Rattle.value.specs.Answer.{pick}
 use Rattle.value.specs.Refusal.{not_sound}
 use Rattle.image.specs.Parse.{Got, took, refused}
@@ -53,7 +53,7 @@ call-shaped c l h = go (takes_answer c)
   where
     go : (b : Bool) → pick b (shaped_of (length l.registers) (length l.answer)) (eqb (length l.registers) 5) ≡ true
     go true = words-shaped l h.registers h.answer
-    go false = eq_eqb _ 5 h.registers
+    go false = eq-eqb _ 5 h.registers
 
 pub function-is : (c : Call) → Calls.Lent c → (l : Lent) → Held l → function c l ≡ answering c l
 function-is c w l h = functions_are_calls c w l h.bytes ∙ ap (λ x. pick x (answering c l) (gave not_sound l)) (call-shaped c l h)

@@ -17,7 +17,7 @@ use Rattle.memory.specs.declared.Registers.{Registers}
 use Rattle.memory.specs.declared.Moved.{Moved}
 use Rattle.memory.specs.declared.Moved.TheVariants as moved
 use Rattle.memory.specs.declared.Given.{Given}
-use Rattle.memory.specs.declared.Given.TheVariants as goal
+use Rattle.memory.specs.declared.Given.TheVariants as given
 use Rattle.memory.specs.declared.Place.{Place}
 use Rattle.memory.specs.declared.Place.TheVariants as place
 use Rattle.memory.specs.declared.Outcome.{Outcome}
@@ -54,8 +54,8 @@ use Rattle.replies.specs.Words.{reply, counted_of, reply_entered, reply_run, rep
 use Rattle.linked.specs.Functions.{told, placed}
 
 pub given-words : (a : Given) → reply_given a ≡ told (allocated_reply a)
-given-words (goal.Made p m) = refl
-given-words (goal.Refused n) = refl
+given-words (given.Made p m) = refl
+given-words (given.Refused n) = refl
 
 -- ---- a step, and each step of a run
 

@@ -18,7 +18,7 @@ const HEX_ROOM: usize = 131072;
 const ANSWER_ROOM: usize = 1114488;
 
 // The machine's registers, how long the image is, and the line that is being read.
-#[derive(Drop)]
+#[derive(Clone, Copy)]
 pub struct Talk {
     pub m: Registers,
     pub image: usize,

@@ -2,7 +2,7 @@
 use libc::STDIN_FILENO;
 
 // What was read: so many bytes, nothing more, or a failure.
-#[derive(Drop)]
+#[derive(Clone, Copy)]
 pub enum Got {
     Bytes(usize),
     End,

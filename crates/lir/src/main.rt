@@ -1,4 +1,6 @@
 // The program: runs an image, checks one, or drives the evaluator by hand. It moves bytes between files and proved functions.
+#![tactic(auto)]
+
 mod dialog;
 mod file;
 mod say;

@@ -18,7 +18,7 @@ pub const ENDED: u64 = 1;
 pub const FAILED: u64 = 2;
 
 // The line that is being read, how many bytes the last read gave, and whether there is more.
-#[derive(Drop)]
+#[derive(Clone, Copy)]
 pub struct Source {
     pub held: Held,
     pub end: usize,

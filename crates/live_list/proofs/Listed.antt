@@ -5,7 +5,7 @@ use mathlib.Core.Bool.{true, false}
 use Prim.Native.Nat.{ℕ, ◌+◌, ◌*◌, ◌≤◌, ◌<◌}
 use native.Mathlib.Numerals.{add-one}
 use lib.ListN.{get_or, set, length}
-use borrow.Author.Tests.{le-ltb, lt-ltb, le-leb, eq_eqb, leb-true, ltb-true, eqb-true}
+use borrow.Author.Tests.{le-ltb, lt-ltb, le-leb, eq-eqb, leb-true, ltb-true, eqb-true}
 use Rattle.memory.specs.Tables.{Tables, ready, pointer, pointer_at, standing_of, stands_of, live_record, flag_of, record_of, filled, columns, roomy_of, filled_of, listing, listed_of}
 use Rattle.memory.specs.declared.LiveRecord.{LiveRecord}
 use Rattle.memory.specs.declared.Outcome.TheVariants as outcome
@@ -16,7 +16,7 @@ use Rattle.live_list.specs.Record.{in_tables, record_in}
 
 stands_there : (d : ℕ) (fr : List ℕ) (q : PointerRecord) → d ≤ 64 → length fr ≡ 260 → stands_of d fr q ≡ standing_of d fr q
 unfolding stands_of
-stands_there d fr q a b = simp (eq_eqb _ _ b, le-ltb _ _ a)
+stands_there d fr q a b = simp (eq-eqb _ _ b, le-ltb _ _ a)
 
 -- a local pointer's record, by where its allocation stands
 pub recorded : (d : ℕ) (fr ps : List ℕ) (p : ℕ) (x : Place) → d ≤ 64 → length fr ≡ 260 → get_or ps (p * 5) 0 ≡ 0
@@ -41,7 +41,7 @@ module _ (d : ℕ) (fr ps : List ℕ) (p : ℕ) where
 
   pub recorded_in : d ≤ 64 → p < 4096 → length fr ≡ 260 → length ps ≡ 20480 → record_in d fr ps p ≡ record_of d fr (pointer_at ps p)
   unfolding record_in in_tables
-  recorded_in a b f q = rw (eq_eqb _ _ f, eq_eqb _ _ q, le-leb d 64 a, lt-ltb p 4096 b)
+  recorded_in a b f q = rw (eq-eqb _ _ f, eq-eqb _ _ q, le-leb d 64 a, lt-ltb p 4096 b)
 
   pub record_out : {r : LiveRecord} → in_tables d p (length fr) (length ps) ≡ false → r ≡ live_record 0 0 0 0 → r ≡ record_in d fr ps p
   unfolding record_in

@@ -1,4 +1,6 @@
 // The live list: a lent table of records, one for each pointer number, as four slices.
+#![tactic(auto)]
+
 ghost use Rattle.std.specs.Prelude.{◌≡◌, ◌<◌, ◌≤◌, length};
 ghost use Rattle.memory.specs.Tables.{tables, pointer_at, live_record, record_of, columns, filled_of, roomy_of, listing, listed_of};
 ghost use Rattle.live_list.specs.Record.{in_tables, record_in};

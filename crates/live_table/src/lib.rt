@@ -1,4 +1,6 @@
 // The live list as a lent table of records, filled by a thin walk: each record is the one that `live_list` makes of the flat tables.
+#![tactic(auto)]
+
 ghost use Rattle.std.specs.Prelude.{◌≡◌};
 ghost use Rattle.memory.specs.Tables.{tables, state};
 ghost use Rattle.live_list.specs.Record.{record_in};
@@ -9,7 +11,7 @@ use soundness::sound;
 use value::refusal::{NOT_SOUND, SHORT_TABLE};
 
 // Whether the pointer is live, its frame's index, its allocation and its offset.
-#[derive(Drop)]
+#[derive(Clone, Copy)]
 pub struct PointerRecord {
     pub live: bool,
     pub frame: u64,
@@ -18,7 +20,7 @@ pub struct PointerRecord {
 }
 
 // The answer, and how many records go to the table.
-#[derive(Drop)]
+#[derive(Clone, Copy)]
 struct Told {
     answer: Outcome,
     count: usize,

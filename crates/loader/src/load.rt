@@ -11,7 +11,7 @@ use crate::instruction::instruction_after;
 use image::field::{Step, end_after, only_after, past, place, raw_after, up_to_after, value};
 use value::refusal::OVER_LIMIT;
 
-#[derive(Drop)]
+#[derive(Clone, Copy)]
 pub struct Header {
     pub end: Step,
     pub counts: Counts,
@@ -93,7 +93,7 @@ fn instructions_after(
     c
 }
 
-#[derive(Drop)]
+#[derive(Clone, Copy)]
 pub struct Blocks {
     pub end: Step,
     pub total: usize,
@@ -125,7 +125,7 @@ fn blocks_after(
 }
 
 // What loading answers. Of an image that was taken: its counts, and where each instruction, block, function and constant is.
-#[derive(Drop)]
+#[derive(Clone, Copy)]
 pub struct Loaded {
     pub end: Step,
     pub counts: Counts,

@@ -16,7 +16,7 @@ use Rattle.memory.specs.View.{tab, part, bytes_of, allocations_in, frame_in, poi
 use Rattle.memory.specs.declared.Registers.{Registers}
 use Rattle.memory.specs.declared.PointerRecord.{PointerRecord}
 use Rattle.memory.specs.declared.Given.{Given}
-use Rattle.memory.specs.declared.Given.TheVariants as goal
+use Rattle.memory.specs.declared.Given.TheVariants as given
 use Rattle.memory.proofs.Lists.{zeroed_paste, full}
 use Rattle.memory.proofs.Every.{by_test}
 use Rattle.memory.proofs.Tab.{tab-more, length-tab, tab-same, get_d_tab, tab-set, part_length, part-below, part_in}
@@ -248,7 +248,7 @@ module _ (s : Tables) (so : Sound s) (size : ℕ)
           bounds = length-set s.bounds (count + 1) (u + size) ∙ hb;
           pointers = length_pointer_set s.pointers s.registers.pointers v ∙ h.pointers;
           deep = h.deep;
-          goal = omega arith;
+          given = omega arith;
         };
         some = so.some;
         counted = so.counted;
@@ -351,27 +351,27 @@ module _ (t : Tables) (so : Sound t) (size : ℕ) where
   abbrev afterwards : Registers → Out → Tables
   afterwards m o = tables m o.store o.frames o.bounds o.pointers
 
-  kept : Allocation t size → (p : ℕ) (m : Registers) → (allocated_of t size).answer ≡ goal.Made p m → Sound (afterwards m (allocated_of t size))
+  kept : Allocation t size → (p : ℕ) (m : Registers) → (allocated_of t size).answer ≡ given.Made p m → Sound (afterwards m (allocated_of t size))
   kept (full_allocations a b) p m e = absurd (never_given allocations_full p m (sym (ap answer a) ∙ e))
   kept (full_bytes a b) p m e = absurd (never_given bytes_full p m (sym (ap answer a) ∙ e))
   kept (full_pointers a b) p m e = absurd (never_given pointers_full p m (sym (ap answer a) ∙ e))
   kept (room_for few room left a b) p m e =
-      let f : goal.Made t.registers.pointers (more t.registers) ≡ goal.Made p m = sym (ap answer a) ∙ e in
+      let f : given.Made t.registers.pointers (more t.registers) ≡ given.Made p m = sym (ap answer a) ∙ e in
       let g : more t.registers ≡ m = cc in
       rw a (rw g at (alloc_kept t so size few room left))
 
-  pub allocate-sound : (p : ℕ) (m : Registers) → (allocated_of t size).answer ≡ goal.Made p m → Sound (afterwards m (allocated_of t size))
+  pub allocate-sound : (p : ℕ) (m : Registers) → (allocated_of t size).answer ≡ given.Made p m → Sound (afterwards m (allocated_of t size))
   allocate-sound = kept allocation
 
-  numbered : Allocation t size → (p : ℕ) (m : Registers) → (allocated_of t size).answer ≡ goal.Made p m → p ≡ length (view t).pointers
+  numbered : Allocation t size → (p : ℕ) (m : Registers) → (allocated_of t size).answer ≡ given.Made p m → p ≡ length (view t).pointers
   numbered (full_allocations a b) p m e = absurd (never_given allocations_full p m (sym (ap answer a) ∙ e))
   numbered (full_bytes a b) p m e = absurd (never_given bytes_full p m (sym (ap answer a) ∙ e))
   numbered (full_pointers a b) p m e = absurd (never_given pointers_full p m (sym (ap answer a) ∙ e))
   numbered (room_for few room left a b) p m e =
-      let f : goal.Made t.registers.pointers (more t.registers) ≡ goal.Made p m = sym (ap answer a) ∙ e in
+      let f : given.Made t.registers.pointers (more t.registers) ≡ given.Made p m = sym (ap answer a) ∙ e in
       let g : p ≡ t.registers.pointers = cc in
       g ∙ sym (count-seen t so)
 
   -- The number given is that of pointers before.
-  pub allocate-number : (p : ℕ) (m : Registers) → (allocated_of t size).answer ≡ goal.Made p m → p ≡ length (view t).pointers
+  pub allocate-number : (p : ℕ) (m : Registers) → (allocated_of t size).answer ≡ given.Made p m → p ≡ length (view t).pointers
   allocate-number = numbered allocation

@@ -6,7 +6,7 @@ use mathlib.Core.Option.{none, some}
 use Prim.Native.Nat.{ℕ, ◌+◌, ◌*◌, ◌<◌, zero, suc}
 use native.Mathlib.Omega.{arith}
 use lib.ListN.{get_or, length, replicate, length-replicate}
-use borrow.Author.Tests.{eq_eqb}
+use borrow.Author.Tests.{eq-eqb}
 use Rattle.value.proofs.Truth.{and_true}
 use Rattle.memory.specs.Memory.{Frame, no_frame}
 use Rattle.memory.specs.Memory as M
@@ -79,7 +79,7 @@ module _ (s f b p v : List ℕ) (ls : length s ≡ 32768) (lf : length f ≡ 260
   unfolding sound_of
   all_sound =
       and_true (sound_test t zero_sound)
-      (and_true (eq_eqb (length vs) 512 (length-replicate (length v) 0 ∙ lv)) (and_true idle (every-all 256 (variable_ok vs) (λ x h. zero_variable x))))
+      (and_true (eq-eqb (length vs) 512 (length-replicate (length v) 0 ∙ lv)) (and_true idle (every-all 256 (variable_ok vs) (λ x h. zero_variable x))))
 
   fresh-seen : view t ≡ M.fresh
   unfolding view M.fresh tab

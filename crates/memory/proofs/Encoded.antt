@@ -5,7 +5,7 @@ use Prim.Native.Nat.{ℕ, ◌+◌, ◌*◌, ◌<◌, ◌≤◌, zero, suc}
 use native.Mathlib.Omega.{arith}
 use lib.ListN.{get_or, length}
 use lib.Dec.{ltb, leb, eqb}
-use borrow.Author.Tests.{ltb-true, ltb-false, leb-true, eqb-true, eqb-false, le-leb, eq_eqb}
+use borrow.Author.Tests.{ltb-true, ltb-false, leb-true, eqb-true, eqb-false, le-leb, eq-eqb}
 use Rattle.value.specs.Value.{tag}
 use Rattle.value.specs.Tags.{kind_at, named, held}
 use Rattle.value.proofs.Truth.{both_true, and_true}
@@ -36,7 +36,7 @@ pointer_rule q =
     one k n =
         same_truth (eqb k 1) (leb k 1)
         (λ e. let h = eqb-true k 1 e in le-leb k 1 (omega arith))
-        (λ e. let h : k ≤ 1 = leb-true k 1 e in eq_eqb k 1 (omega arith))
+        (λ e. let h : k ≤ 1 = leb-true k 1 e in eq-eqb k 1 (omega arith))
 
 variable_rule : (t b : ℕ) → stored_ok t b ≡ variable_encoded t b
 unfolding stored_ok variable_encoded
@@ -102,16 +102,16 @@ unfolding well_encoded exact_lengths firsts_encoded bounds_encoded
 encoded_test s h =
     let t = s.memory in
     and_true
-    (and_true (eq_eqb _ _ h.store) (and_true (eq_eqb _ _ h.frames) (and_true (eq_eqb _ _ h.bounds) (and_true (eq_eqb _ _ h.pointers) (eq_eqb _ _ h.variables)))))
+    (and_true (eq-eqb _ _ h.store) (and_true (eq-eqb _ _ h.frames) (and_true (eq-eqb _ _ h.bounds) (and_true (eq-eqb _ _ h.pointers) (eq-eqb _ _ h.variables)))))
     (and_true (le-leb _ _ h.flag)
     (and_true
-    (and_true (eq_eqb _ _ h.bottom)
+    (and_true (eq-eqb _ _ h.bottom)
     (every-all t.registers.depth _
     (λ i k. let f = h.firsts i k in
     let q = ap (λ j. get_or t.frames j 0) (next-first i) in
     le-leb (frame_word t.frames i 3) (frame_word t.frames (i + 1) 3) (omega arith))))
     (and_true
-    (and_true (eq_eqb _ _ h.start) (and_true (every-all (live t) _ (λ k l. le-leb _ _ (h.ends k l))) (le-leb _ _ h.stored)))
+    (and_true (eq-eqb _ _ h.start) (and_true (every-all (live t) _ (λ k l. le-leb _ _ (h.ends k l))) (le-leb _ _ h.stored)))
     (and_true (every-all t.registers.pointers _ h.kinds) (every-all 256 _ h.values)))))
 
 -- ---- sound tables are well encoded
@@ -167,7 +167,7 @@ registers-of r next depth h p e = and_true p
     (λ z. rw z refl)
     (λ z. let n = eqb-false r 1 z in
     let d : eqb depth 1 ≡ true = rw z at e in
-    rw z (and_true (eq_eqb r 0 (omega arith)) d)))
+    rw z (and_true (eq-eqb r 0 (omega arith)) d)))
 
 module _ (s : State) (h : Encoded s) (g : Good (view s.memory)) where
   abbrev t : Tables
@@ -269,7 +269,7 @@ encoded_sound s h e =
     let g = good_of (view t) a.0 in
     let d = depth_seen s h g in
     and_true (sound_test t (memory-sound s h g))
-    (and_true (eq_eqb _ _ h.variables)
+    (and_true (eq-eqb _ _ h.variables)
     (and_true (registers-of _ _ _ h.flag b.0 (sym (ap (λ k. running_in t.registers.running || eqb k 1) d) ∙ c.1))
     (every-all 256 (variable_ok s.variables) (λ x k. variable_rule _ _ ∙ h.values x k))))
 

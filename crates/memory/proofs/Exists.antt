@@ -10,7 +10,7 @@ use native.Mathlib.Omega.{arith}
 use lib.ListN.{get_or, length, replicate, length-append, length-replicate}
 use lib.Seq.{ext_get_or}
 use lib.Dec.{ltb, leb, eqb}
-use borrow.Author.Tests.{ltb-true, ltb-false, leb-true, eqb-true, eq_eqb}
+use borrow.Author.Tests.{ltb-true, ltb-false, leb-true, eqb-true, eq-eqb}
 use Rattle.value.specs.Value.{Value, tag}
 use Rattle.value.proofs.Truth.{both_true, and_true}
 use Rattle.memory.specs.Memory.{Back, Frame, Pointer, constant, local, Memory, no_frame, frame_at, live_count, live_bytes}
@@ -459,4 +459,4 @@ every-sound m running place vs e f =
   where
     built : memory_ok (tables_of m running place) ≡ true → registers_ok (flag_out running) place (length m.frames) ≡ true
         → every 256 (variable_ok (variables_of vs)) ≡ true → sound_of (state (tables_of m running place) (variables_of vs)) ≡ true
-    built p q r = unfold sound_of in and_true p (and_true (eq_eqb _ _ (length-tab 512 (λ k. value_word_of (vs (k / 2)) (k % 2)))) (and_true q r))
+    built p q r = unfold sound_of in and_true p (and_true (eq-eqb _ _ (length-tab 512 (λ k. value_word_of (vs (k / 2)) (k % 2)))) (and_true q r))

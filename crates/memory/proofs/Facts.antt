@@ -6,7 +6,7 @@ use Prim.Native.Nat.{ℕ, ◌+◌, ◌*◌, ◌<◌, ◌≤◌}
 use native.Mathlib.Omega.{arith}
 use lib.ListN.{get_or, length}
 use lib.Dec.{ltb, leb, eqb}
-use borrow.Author.Tests.{ltb-true, leb-true, eqb-true, eqb-false, le-leb, eq_eqb, not-true}
+use borrow.Author.Tests.{ltb-true, leb-true, eqb-true, eqb-false, le-leb, eq-eqb, not-true}
 use Rattle.memory.specs.Tables.{Tables, ready, ready_of, live, every, id_above, frame_ok, bound_ok, pointers_ok, ends_ok, allocations_ok, memory_ok}
 use Rattle.memory.proofs.Laws.{Ready, ready_of_lem}
 use Rattle.memory.proofs.Every.{every-at, every-all}
@@ -35,7 +35,7 @@ pub record Sound (t : Tables) : Type 0 where
 pub ready_test : (d n s f b p : ℕ) → Ready d n s f b p → ready_of d n s f b p ≡ true
 unfolding ready_of
 ready_test d n s f b p h =
-    simp (eq_eqb _ _ h.store, eq_eqb _ _ h.frames, eq_eqb _ _ h.bounds, eq_eqb _ _ h.pointers, le-leb _ _ h.deep, le-leb _ _ h.given)
+    simp (eq-eqb _ _ h.store, eq-eqb _ _ h.frames, eq-eqb _ _ h.bounds, eq-eqb _ _ h.pointers, le-leb _ _ h.deep, le-leb _ _ h.given)
 
 frame-of : (fr : List ℕ) (d counter i : ℕ) → frame_ok fr d counter i ≡ true → FrameSound fr d counter i
 unfolding frame_ok
@@ -57,7 +57,7 @@ ends_of id first start e =
 
 ends_test : (id first start : ℕ) → id ≡ 0 → first ≡ 0 → start ≡ 0 → ends_ok id first start ≡ true
 unfolding ends_ok
-ends_test id first start a b c = simp (eq_eqb _ _ a, eq_eqb _ _ b, eq_eqb _ _ c)
+ends_test id first start a b c = simp (eq-eqb _ _ a, eq-eqb _ _ b, eq-eqb _ _ c)
 
 bound_of : (bo : List ℕ) (k : ℕ) → bound_ok bo k ≡ true → get_or bo k 0 ≤ get_or bo (k + 1) 0
 unfolding bound_ok

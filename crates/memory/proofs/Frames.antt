@@ -7,7 +7,7 @@ use native.Mathlib.Omega.{arith}
 use lib.ListN.{get_or, set, length, take, length-set}
 use lib.Seq.{get_or-set_same, get_or-set_other, take_at}
 use lib.Dec.{ltb, leb}
-use borrow.Author.Tests.{ltb-true, ltb-false, leb-true, leb-false, lt-ltb, le-ltb, eq_eqb}
+use borrow.Author.Tests.{ltb-true, ltb-false, leb-true, leb-false, lt-ltb, le-ltb, eq-eqb}
 use Rattle.value.specs.Answer.{ok, need}
 use Rattle.value.specs.Refusal.{frames_full, ids_spent}
 use Rattle.memory.specs.Memory.{Back, Frame, Pointer, Memory, frame_at, no_frame, top, push_frame, pop_frame, pushed, popped}
@@ -263,11 +263,11 @@ module _ (t : Tables) (so : Sound t) (place variable : ℕ) where
   push-view =
       let l : length t.frames ≡ 260 = so.ready.frames in
       by_test (leb 64 t.registers.depth)
-      (λ u. simp (eq_eqb _ _ l, u, depth_seen, le-ltb t.registers.depth 64 (leb-true _ _ u)))
+      (λ u. simp (eq-eqb _ _ l, u, depth_seen, le-ltb t.registers.depth 64 (leb-true _ _ u)))
       (λ u. let room : t.registers.depth < 64 = leb-false _ _ u in
       by_test (leb 4294967295 t.registers.counter)
-      (λ v. simp (eq_eqb _ _ l, u, v, depth_seen, lt-ltb t.registers.depth 64 room, counter_test ∙ le-ltb t.registers.counter 4294967295 (leb-true _ _ v)))
-      (λ v. simp (eq_eqb _ _ l, u, v, depth_seen, lt-ltb t.registers.depth 64 room, counter_test ∙ lt-ltb t.registers.counter 4294967295 (leb-false _ _ v))
+      (λ v. simp (eq-eqb _ _ l, u, v, depth_seen, lt-ltb t.registers.depth 64 room, counter_test ∙ le-ltb t.registers.counter 4294967295 (leb-true _ _ v)))
+      (λ v. simp (eq-eqb _ _ l, u, v, depth_seen, lt-ltb t.registers.depth 64 room, counter_test ∙ lt-ltb t.registers.counter 4294967295 (leb-false _ _ v))
       (ap ok (push-seen t place variable so room))))
 
 -- the answer of a push that was granted
@@ -280,7 +280,7 @@ pub push-sound : (t : Tables) → Sound t → (place variable : ℕ) → place �
 unfolding pushed_of
 push-sound t so place variable hp hv m e =
     let l : length t.frames ≡ 260 = so.ready.frames in
-    let z = eq_eqb _ _ l in
+    let z = eq-eqb _ _ l in
     by_test (leb 64 t.registers.depth)
     (λ u. absurd (never_moved frames_full m (simp (z, u) at e)))
     (λ u. by_test (leb 4294967295 t.registers.counter)
@@ -331,7 +331,7 @@ unfolding popped_of pop_frame
 pop-view t so =
     let l : length t.frames ≡ 260 = so.ready.frames in
     let d : t.registers.depth ≤ 64 = so.ready.deep in
-    let z = eq_eqb _ _ l in
+    let z = eq-eqb _ _ l in
     let y = le-ltb _ _ d in
     let s : length (view t).frames ≡ t.registers.depth = depth_seen t so 0 0 in
     by_test (leb t.registers.depth 1)
@@ -388,7 +388,7 @@ pub pop-sound : (t : Tables) → Sound t → (p v : ℕ) (m : Registers) → pop
     → Sound (tables m t.store t.frames t.bounds t.pointers)
 unfolding popped_of
 pop-sound t so p v m e =
-    let z = eq_eqb _ _ so.ready.frames in
+    let z = eq-eqb _ _ so.ready.frames in
     let y = le-ltb _ _ so.ready.deep in
     by_test (leb t.registers.depth 1)
     (λ u. absurd (never_root p v m (simp (z, y, u) at e)))

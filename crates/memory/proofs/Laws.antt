@@ -6,7 +6,7 @@ use Prim.Native.Nat.{ℕ, ◌+◌, ◌-◌, ◌*◌, ◌/◌, ◌<◌, ◌≤◌
 use native.Mathlib.Omega.{arith}
 use lib.ListN.{get_or, length}
 use lib.Dec.{ltb, leb, eqb}
-use borrow.Author.Tests.{eqb-true, eqb-false, ltb-false, leb-true, leb-false, eq_eqb, ne_eqb, le-ltb, le-leb, lt-leb}
+use borrow.Author.Tests.{eqb-true, eqb-false, ltb-false, leb-true, leb-false, eq-eqb, ne_eqb, le-ltb, le-leb, lt-leb}
 use Rattle.value.specs.Answer.{pick}
 use Rattle.value.specs.Refusal.{not_sound, not_given_out, through_constant, frame_gone, no_allocation, beyond_length, misaligned, allocations_full, bytes_full, pointers_full, no_constant}
 use Rattle.value.proofs.Truth.{both_true}
@@ -57,14 +57,14 @@ ready_of_lem d n s f b p e =
 
 pub ready-last : (d n s f b p : ℕ) → s ≡ 32768 → f ≡ 260 → b ≡ 513 → p ≡ 20480 → d ≤ 64 → ready_of d n s f b p ≡ leb n 4096
 unfolding ready_of
-ready-last d n s f b p hs hf hb hp hd = simp (eq_eqb _ _ hs, eq_eqb _ _ hf, eq_eqb _ _ hb, eq_eqb _ _ hp, le-leb _ _ hd)
+ready-last d n s f b p hs hf hb hp hd = simp (eq-eqb _ _ hs, eq-eqb _ _ hf, eq-eqb _ _ hb, eq-eqb _ _ hp, le-leb _ _ hd)
 
 -- ---- fresh
 
 pub fresh-made : (s f b p v : List ℕ) → ready (tables (registers 0 0 1 1 0) s f b p) ≡ true → length v ≡ 512
     → fresh_of s f b p v ≡ cleared s f b p v
 unfolding fresh_of
-fresh-made s f b p v h k = simp (h, eq_eqb _ _ k)
+fresh-made s f b p v h k = simp (h, eq-eqb _ _ k)
 
 pub all_same : {a : Moved} {s s' f f' b b' p p' v v' : List ℕ} → s ≡ s' → f ≡ f' → b ≡ b' → p ≡ p' → v ≡ v' → all a s f b p v ≡ all a s' f' b' p' v'
 all_same a b c d e = cc

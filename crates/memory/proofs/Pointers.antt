@@ -7,7 +7,7 @@ use native.Mathlib.Omega.{arith}
 use lib.ListN.{get_or, set, length, length-set}
 use lib.Seq.{get_or-set_same, get_or-set_other}
 use lib.Dec.{ltb, leb, eqb}
-use borrow.Author.Tests.{ltb-true, ltb-false, leb-true, leb-false, lt-ltb, le-ltb, eq_eqb}
+use borrow.Author.Tests.{ltb-true, ltb-false, leb-true, leb-false, lt-ltb, le-ltb, eq-eqb}
 use Rattle.value.specs.Answer.{ok, refused, need, pick}
 use Rattle.value.specs.Refusal.{not_given_out, through_constant, offset_too_large, pointers_full}
 use Rattle.memory.specs.Memory.{Pointer, constant, local, with_pointer, constant_address, offset_at, offset_by}
@@ -16,7 +16,7 @@ use Rattle.memory.specs.Tables.{Tables, tables, registers, both, more, pointer, 
 use Rattle.memory.specs.View.{tab, pointer_in, view, after_pointer}
 use Rattle.memory.specs.declared.Registers.{Registers}
 use Rattle.memory.specs.declared.PointerRecord.{PointerRecord}
-use Rattle.memory.specs.declared.Given.TheVariants as goal
+use Rattle.memory.specs.declared.Given.TheVariants as given
 use Rattle.memory.proofs.Every.{by_test}
 use Rattle.memory.proofs.Tab.{tab-more, length-tab, tab-same, get_d_tab}
 use Rattle.memory.proofs.Facts.{Sound}
@@ -39,7 +39,7 @@ pub local-ok : (i f j o : ℕ) → pointer_ok (pointer 0 i f j o) ≡ true
 unfolding pointer_ok
 local-ok i f j o = refl
 
-pub never_given : (n p : ℕ) (m : Registers) → goal.Refused n ≡ goal.Made p m → ⊥
+pub never_given : (n p : ℕ) (m : Registers) → given.Refused n ≡ given.Made p m → ⊥
 never_given n p m e = let z : ◌≡◌ {A = ℕ} 0 1 = cc in omega arith
 
 pub pointer_other : (l : List ℕ) (p : ℕ) (v : PointerRecord) (q : ℕ) → q < p → pointer_at (pointer_set l p v) q ≡ pointer_at l q
@@ -126,7 +126,7 @@ module _ (t : Tables) (so : Sound t) where
           bounds = r.bounds;
           pointers = length_pointer_set t.pointers t.registers.pointers v ∙ r.pointers;
           deep = r.deep;
-          goal = omega arith;
+          given = omega arith;
         };
         some = so.some;
         counted = so.counted;
@@ -171,8 +171,8 @@ module _ (t : Tables) (so : Sound t) where
 
   offset-local : (p by : ℕ) → by < 2 ^ 64 → p < t.registers.pointers → (q : PointerRecord) → eqb q.kind 0 ≡ true
       → after_pointer t
-      (pick (ltb (18446744073709551615 - by) q.offset) (both (goal.Refused offset_too_large) t.pointers)
-      (pick (leb 4096 t.registers.pointers) (both (goal.Refused pointers_full) t.pointers) (handed t.registers (moved_on q by) t.pointers)))
+      (pick (ltb (18446744073709551615 - by) q.offset) (both (given.Refused offset_too_large) t.pointers)
+      (pick (leb 4096 t.registers.pointers) (both (given.Refused pointers_full) t.pointers) (handed t.registers (moved_on q by) t.pointers)))
       ≡ offset_at (view t) (pointer_in q) by
   unfolding after_pointer offset_at need
   offset-local p by small h q k =
@@ -192,7 +192,7 @@ module _ (t : Tables) (so : Sound t) where
   pub address-view : (k : ℕ) → after_pointer t (address_of t.registers k t.pointers) ≡ constant_address (view t) k
   unfolding address_of constant_address after_pointer need
   address-view k =
-      let z = eq_eqb _ _ so.ready.pointers in
+      let z = eq-eqb _ _ so.ready.pointers in
       by_test (leb 4096 t.registers.pointers)
       (λ u. simp (z, u, ap (λ n. ltb n 4096) count-seen ∙ le-ltb t.registers.pointers 4096 (leb-true _ _ u)))
       (λ u. let h : t.registers.pointers < 4096 = leb-false _ _ u in
@@ -203,7 +203,7 @@ module _ (t : Tables) (so : Sound t) where
   pub offset-view : (p by : ℕ) → by < 2 ^ 64 → after_pointer t (offset_of t.registers p by t.pointers) ≡ offset_by (view t) p by
   unfolding offset_of offset_by after_pointer need
   offset-view p by small =
-      let z = eq_eqb _ _ so.ready.pointers in
+      let z = eq-eqb _ _ so.ready.pointers in
       let y = le-ltb _ _ so.ready.given in
       by_test (leb t.registers.pointers p)
       (λ u. simp (z, y, u, ap (λ n. ltb p n) count-seen ∙ le-ltb p t.registers.pointers (leb-true _ _ u)))
@@ -213,22 +213,22 @@ module _ (t : Tables) (so : Sound t) where
       (λ k. simp (z, y, u, g, k) (offset-local p by small h (pointer_at t.pointers p) k ∙ sym (ap (λ q. offset_at (view t) q by) (pointer-seen p h))))
       (λ k. simp (z, y, u, g, k) (sym (ap (λ q. offset_at (view t) q by) (pointer-seen p h ∙ seen-constant (pointer_at t.pointers p) k) ∙ offset-constant _ by))))
 
-  pub address-sound : (k p : ℕ) (m : Registers) → (address_of t.registers k t.pointers).answer ≡ goal.Made p m
+  pub address-sound : (k p : ℕ) (m : Registers) → (address_of t.registers k t.pointers).answer ≡ given.Made p m
       → Sound (tables m t.store t.frames t.bounds (address_of t.registers k t.pointers).table)
   unfolding address_of
   address-sound k p m e =
-      let z = eq_eqb _ _ so.ready.pointers in
+      let z = eq-eqb _ _ so.ready.pointers in
       by_test (leb 4096 t.registers.pointers)
       (λ u. absurd (never_given pointers_full p m (simp (z, u) at e)))
-      (λ u. let f : goal.Made t.registers.pointers (more t.registers) ≡ goal.Made p m = simp (z, u) at e in
+      (λ u. let f : given.Made t.registers.pointers (more t.registers) ≡ given.Made p m = simp (z, u) at e in
       let g : more t.registers ≡ m = cc in
       simp (z, u) (rw g at (given-kept (pointer 1 k 0 0 0) (leb-false _ _ u) (constant-ok k))))
 
-  pub offset-sound : (p by n : ℕ) (m : Registers) → (offset_of t.registers p by t.pointers).answer ≡ goal.Made n m
+  pub offset-sound : (p by n : ℕ) (m : Registers) → (offset_of t.registers p by t.pointers).answer ≡ given.Made n m
       → Sound (tables m t.store t.frames t.bounds (offset_of t.registers p by t.pointers).table)
   unfolding offset_of
   offset-sound p by n m e =
-      let z = eq_eqb _ _ so.ready.pointers in
+      let z = eq-eqb _ _ so.ready.pointers in
       let y = le-ltb _ _ so.ready.given in
       let q = pointer_at t.pointers p in
       by_test (leb t.registers.pointers p)
@@ -238,26 +238,26 @@ module _ (t : Tables) (so : Sound t) where
       (λ v. absurd (never_given offset_too_large n m (simp (z, y, u, k, v) at e)))
       (λ v. by_test (leb 4096 t.registers.pointers)
       (λ w. absurd (never_given pointers_full n m (simp (z, y, u, k, v, w) at e)))
-      (λ w. let f : goal.Made t.registers.pointers (more t.registers) ≡ goal.Made n m = simp (z, y, u, k, v, w) at e in
+      (λ w. let f : given.Made t.registers.pointers (more t.registers) ≡ given.Made n m = simp (z, y, u, k, v, w) at e in
       let g : more t.registers ≡ m = cc in
       simp (z, y, u, k, v, w) (rw g at (given-kept (pointer 0 q.index q.id q.allocation (q.offset + by)) (leb-false _ _ w) (local-ok _ _ _ _))))))
       (λ k. absurd (never_given through_constant n m (simp (z, y, u, k) at e))))
 
   -- The number given is that of pointers before.
-  pub address-number : (k p : ℕ) (m : Registers) → (address_of t.registers k t.pointers).answer ≡ goal.Made p m → p ≡ length (view t).pointers
+  pub address-number : (k p : ℕ) (m : Registers) → (address_of t.registers k t.pointers).answer ≡ given.Made p m → p ≡ length (view t).pointers
   unfolding address_of
   address-number k p m e =
-      let z = eq_eqb _ _ so.ready.pointers in
+      let z = eq-eqb _ _ so.ready.pointers in
       by_test (leb 4096 t.registers.pointers)
       (λ u. absurd (never_given pointers_full p m (simp (z, u) at e)))
-      (λ u. let f : goal.Made t.registers.pointers (more t.registers) ≡ goal.Made p m = simp (z, u) at e in
+      (λ u. let f : given.Made t.registers.pointers (more t.registers) ≡ given.Made p m = simp (z, u) at e in
       let g : p ≡ t.registers.pointers = cc in
       g ∙ sym count-seen)
 
-  pub offset-number : (p by n : ℕ) (m : Registers) → (offset_of t.registers p by t.pointers).answer ≡ goal.Made n m → n ≡ length (view t).pointers
+  pub offset-number : (p by n : ℕ) (m : Registers) → (offset_of t.registers p by t.pointers).answer ≡ given.Made n m → n ≡ length (view t).pointers
   unfolding offset_of
   offset-number p by n m e =
-      let z = eq_eqb _ _ so.ready.pointers in
+      let z = eq-eqb _ _ so.ready.pointers in
       let y = le-ltb _ _ so.ready.given in
       let q = pointer_at t.pointers p in
       by_test (leb t.registers.pointers p)
@@ -267,7 +267,7 @@ module _ (t : Tables) (so : Sound t) where
       (λ v. absurd (never_given offset_too_large n m (simp (z, y, u, k, v) at e)))
       (λ v. by_test (leb 4096 t.registers.pointers)
       (λ w. absurd (never_given pointers_full n m (simp (z, y, u, k, v, w) at e)))
-      (λ w. let f : goal.Made t.registers.pointers (more t.registers) ≡ goal.Made n m = simp (z, y, u, k, v, w) at e in
+      (λ w. let f : given.Made t.registers.pointers (more t.registers) ≡ given.Made n m = simp (z, y, u, k, v, w) at e in
       let g : n ≡ t.registers.pointers = cc in
       g ∙ sym count-seen)))
       (λ k. absurd (never_given through_constant n m (simp (z, y, u, k) at e))))

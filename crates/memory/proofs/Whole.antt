@@ -8,7 +8,7 @@ use native.Mathlib.Numerals.{add-one}
 use native.Mathlib.Omega.{arith}
 use lib.ListN.{get_or, length}
 use lib.Dec.{ltb, leb, eqb}
-use borrow.Author.Tests.{lt-ltb, le-leb, eq_eqb}
+use borrow.Author.Tests.{lt-ltb, le-leb, eq-eqb}
 use Rattle.value.specs.Value.{Value}
 use Rattle.value.proofs.Truth.{both_true, and_true}
 use Rattle.memory.specs.Memory.{Frame}
@@ -96,7 +96,7 @@ memory-seen t so =
     let d = depth_is t so in
     let o = so.some in
     and_true (and_true (ap (λ k. leb 1 k) d ∙ le-leb 1 t.registers.depth o) (ap (λ k. leb k 64) d ∙ le-leb t.registers.depth 64 so.ready.deep))
-    ((and_true (ap (λ (f : Frame). eqb f.id 0) (frame_is t so 0 o) ∙ eq_eqb (get_or t.frames 0 0) 0 so.root)
+    ((and_true (ap (λ (f : Frame). eqb f.id 0) (frame_is t so 0 o) ∙ eq-eqb (get_or t.frames 0 0) 0 so.root)
     (and_true (ids t so)
     (and_true (ap (λ k. leb k 4294967295) (counter t so) ∙ le-leb t.registers.counter 4294967295 so.counted)
     (and_true (ap (λ k. leb k 512) (count-live t so) ∙ le-leb _ 512 so.few)

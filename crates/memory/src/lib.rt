@@ -9,6 +9,8 @@
 // variables  256 records of 2 words: tag and bits of a value, or 0 and 0 for unset
 //
 // What lies above the depth and the counts is stale: it means nothing, and is left as it stood.
+#![tactic(auto)]
+
 ghost use Rattle.std.specs.Prelude.{◌≡◌, ◌+◌, ◌*◌, ◌<◌, ◌≤◌, length, take, drop, replicate};
 ghost use Rattle.std.proofs.Math.Seq.{paste};
 ghost use Rattle.memory.specs.Tables.{tables, ready_of, both, all, out, pointer_at, pointer_set, fresh_of, pushed_of, popped_of, zeroed, room_of, made, allocated_of, aligned_of, within_of, ranked_of, standing_of, stands_of, local_of, read_access_of, write_access_of, written_of, constant_access_of, constant_of, read_of, offset_of, address_of};
@@ -51,7 +53,7 @@ pub const LOCAL: u64 = 0;
 pub const CONSTANT: u64 = 1;
 
 // running is 1 or, where idle, 0; next is the next place, counter the id of the next frame, pointers how many were given out.
-#[derive(Drop)]
+#[derive(Clone, Copy)]
 pub struct Registers {
     pub running: u64,
     pub next: usize,
@@ -60,7 +62,7 @@ pub struct Registers {
     pub pointers: usize,
 }
 
-#[derive(Drop)]
+#[derive(Clone, Copy)]
 pub struct PointerRecord {
     pub kind: u64,
     pub index: u64,
@@ -70,7 +72,7 @@ pub struct PointerRecord {
 }
 
 // A record of the live list.
-#[derive(Drop)]
+#[derive(Clone, Copy)]
 pub struct LiveRecord {
     pub live: u64,
     pub frame: u64,
@@ -78,14 +80,14 @@ pub struct LiveRecord {
     pub offset: u64,
 }
 
-#[derive(Drop)]
+#[derive(Clone, Copy)]
 pub enum Moved {
     Done(Registers),
     Refused(u64),
 }
 
 // A popped frame's return place, its return variable + 1 or 0, and the registers; the root is kept.
-#[derive(Drop)]
+#[derive(Clone, Copy)]
 pub enum Popped {
     Frame(u64, u64, Registers),
     Root,
@@ -93,27 +95,27 @@ pub enum Popped {
 }
 
 // A new pointer's number, and the registers.
-#[derive(Drop)]
+#[derive(Clone, Copy)]
 pub enum Given {
     Made(usize, Registers),
     Refused(u64),
 }
 
-#[derive(Drop)]
+#[derive(Clone, Copy)]
 pub enum Place {
     At(usize),
     Refused(u64),
 }
 
 // Where a read takes its bytes: from a place of the store, or from a constant.
-#[derive(Drop)]
+#[derive(Clone, Copy)]
 pub enum Source {
     Local(usize),
     Constant(u64),
     Refused(u64),
 }
 
-#[derive(Drop)]
+#[derive(Clone, Copy)]
 pub enum Outcome {
     Done,
     Refused(u64),

@@ -1,5 +1,7 @@
 // Fills every table of the memory to its last record and one past, empties frames and uses their bytes again, and prints
 // what the calls answered: a line for each row of SCRIPT, with how many calls were granted and the last refusal, 0 for none.
+#![tactic(auto)]
+
 use libc::STDOUT_FILENO;
 use memory::{Given, Moved, Outcome, Popped, Registers};
 
@@ -257,7 +259,7 @@ const SCRIPT: [u64; 216] = [
 ];
 
 // How many calls were granted, the last refusal, and the registers after them.
-#[derive(Drop)]
+#[derive(Clone, Copy)]
 struct Tally {
     granted: u64,
     refusal: u64,

@@ -3,7 +3,7 @@ use Prim.Native.Nat.{ℕ, ◌<◌, ◌≤◌}
 use mathlib.Core.Path.{◌≡◌, sym, ap, ap₂, ◌∙◌}
 use mathlib.Core.List.{List}
 use lib.ListN.{length}
-use borrow.Author.Tests.{eq_eqb, ne_eqb, lt-ltb, le-ltb}
+use borrow.Author.Tests.{eq-eqb, ne_eqb, lt-ltb, le-ltb}
 use Rattle.words.specs.Text.{Text, text}
 use Rattle.words.specs.Words.{words}
 use Rattle.words.specs.declared.Written.{Written}
@@ -71,6 +71,6 @@ module _ (l s st f b p v before : List ℕ) {w : Written} {after : List ℕ} whe
         → answered w after st' f' b' p' v' ≡ answering before (start_answered l s st f b p v)
     unfolding start_answered
     start-runs {r = r} y x h =
-        rw (le-ltb longest (length l) z, eq_eqb (start_asked l).bad 0 (sym (ap (λ (x : Asked). x.bad) (asks l one q)) ∙ y))
+        rw (le-ltb longest (length l) z, eq-eqb (start_asked l).bad 0 (sym (ap (λ (x : Asked). x.bad) (asks l one q)) ∙ y))
         (tells before (ran_line r) h ∙ ap (λ (k : Running). answering before (from_run k)) (x ∙ ap (λ (k : Asked). fresh_run s k ts bs st f b p v) (asks l one q)
         ∙ ap₂ (λ (i j : List ℕ). fresh_run s (start_asked l) i j st f b p v) q.kinds q.said))

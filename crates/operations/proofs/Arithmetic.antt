@@ -6,7 +6,7 @@ use mathlib.Core.List.{[], ◌∷◌}
 use mathlib.Core.Option.{some}
 use Prim.Native.Nat.{ℕ, ◌-◌, ◌/◌, ◌%◌, ◌<◌, ◌≤◌, ◌^◌}
 use native.Mathlib.Omega.{arith}
-use borrow.Author.Tests.{eq_eqb, ne_eqb, eqb-true, le-leb, lt-leb}
+use borrow.Author.Tests.{eq-eqb, ne_eqb, eqb-true, le-leb, lt-leb}
 use denote.Enum.Declared.{tag_of}
 use lib.Dec.{T, leb}
 use lib.IntN.{ℤ, pos, neg_ℤ, ◌-ℤ◌}
@@ -94,12 +94,12 @@ module _ (k l : Kind) {t u : ℕ} (T : t ≡ tag k) (U : u ≡ tag l) where
   not_same n = sym (ap (λ (b : B.Bool). b && integral k) (ne_eqb (tag k) (tag l) (λ e. n (T ∙ e ∙ sym U))))
 
   pub too_low : t ≡ u → t < 2 → false ≡ (same k l && integral k)
-  too_low e h = sym (ap (λ (b : B.Bool). b && integral k) (eq_eqb (tag k) (tag l) (sym T ∙ e ∙ U)) ∙ by_tag k ∙ ap (λ (b : B.Bool). b && leb (tag k) 9) (lt-leb 2 (tag k) (subst (λ (n : ℕ). n < 2) T h)))
+  too_low e h = sym (ap (λ (b : B.Bool). b && integral k) (eq-eqb (tag k) (tag l) (sym T ∙ e ∙ U)) ∙ by_tag k ∙ ap (λ (b : B.Bool). b && leb (tag k) 9) (lt-leb 2 (tag k) (subst (λ (n : ℕ). n < 2) T h)))
 
   pub by_top : t ≡ u → 2 ≤ t → leb t 9 ≡ (same k l && integral k)
   by_top e h =
       ap (λ (n : ℕ). leb n 9) T
-      ∙ sym (ap (λ (b : B.Bool). b && integral k) (eq_eqb (tag k) (tag l) (sym T ∙ e ∙ U)) ∙ by_tag k ∙ ap (λ (b : B.Bool). b && leb (tag k) 9) (le-leb 2 (tag k) (subst (λ (n : ℕ). 2 ≤ n) T h)))
+      ∙ sym (ap (λ (b : B.Bool). b && integral k) (eq-eqb (tag k) (tag l) (sym T ∙ e ∙ U)) ∙ by_tag k ∙ ap (λ (b : B.Bool). b && leb (tag k) 9) (le-leb 2 (tag k) (subst (λ (n : ℕ). 2 ≤ n) T h)))
 
 -- one tag, one kind
 same_kind : (k l : Kind) → same k l ≡ true → k ≡ l
@@ -141,7 +141,7 @@ module _ {w : Width} {k : Kind} {con : ℤ → IrValue} (s : Signs w k con) wher
       ∙ ap (λ (z : ℤ). computed (operate op k z (to_z w (of_z w b)))) (to_z-of_z w a left ∙ sym (integer-of left e))
       ∙ ap (λ (z : ℤ). computed (operate op k (integer (value_of x)) z)) (to_z-of_z w b right ∙ sym (integer-of right f))
       ∙ ap (λ (l : Kind). computed (operate op l (integer (value_of x)) (integer (value_of y)))) (sym (ap (λ (v : Value). v.kind) (number_of left e)))
-      ∙ operates op (value_of x) (value_of y) refl (ap (λ (l : Kind). same l (value_of y).kind && integral l) p ∙ ap (λ (l : Kind). same k l && integral k) q ∙ ap (λ (t : B.Bool). t && integral k) (eq_eqb (tag k) (tag k) refl) ∙ ap (λ (g : Family). is_unsigned g || is_signed g) s.family-is)
+      ∙ operates op (value_of x) (value_of y) refl (ap (λ (l : Kind). same l (value_of y).kind && integral l) p ∙ ap (λ (l : Kind). same k l && integral k) q ∙ ap (λ (t : B.Bool). t && integral k) (eq-eqb (tag k) (tag k) refl) ∙ ap (λ (g : Family). is_unsigned g || is_signed g) s.family-is)
     where
       p : (value_of x).kind ≡ k
       p = ap (λ (v : Value). v.kind) (number_of left e)
@@ -188,11 +188,11 @@ module _ (x : Value) (n : is_signed (family x.kind) ≡ false) (y : Value) {t : 
 
   pub div_by_zero : {d : ℕ} → d ≡ y.bits → d ≡ 0 → C.Refused zero_divisor ≡ computed (arithmetic Believed.div x y)
   unfolding operate need computed
-  div_by_zero D z = sym (ap (λ (t : B.Bool). computed (need (not t) zero_divisor (checked x.kind (quot_z (pos x.bits) (pos y.bits))))) (eq_eqb y.bits 0 (sym D ∙ z))) ∙ by_counts Believed.div
+  div_by_zero D z = sym (ap (λ (t : B.Bool). computed (need (not t) zero_divisor (checked x.kind (quot_z (pos x.bits) (pos y.bits))))) (eq-eqb y.bits 0 (sym D ∙ z))) ∙ by_counts Believed.div
 
   pub rem_by_zero : {d : ℕ} → d ≡ y.bits → d ≡ 0 → C.Refused zero_divisor ≡ computed (arithmetic Believed.mod' x y)
   unfolding operate need computed
-  rem_by_zero D z = sym (ap (λ (t : B.Bool). computed (need (not t) zero_divisor (checked x.kind (quot_z (pos x.bits) (pos y.bits)) >>= λ q. checked x.kind (rem_z (pos x.bits) (pos y.bits))))) (eq_eqb y.bits 0 (sym D ∙ z))) ∙ by_counts Believed.mod'
+  rem_by_zero D z = sym (ap (λ (t : B.Bool). computed (need (not t) zero_divisor (checked x.kind (quot_z (pos x.bits) (pos y.bits)) >>= λ q. checked x.kind (rem_z (pos x.bits) (pos y.bits))))) (eq-eqb y.bits 0 (sym D ∙ z))) ∙ by_counts Believed.mod'
 
   module _ {b d : ℕ} (X : b ≡ x.bits) (D : d ≡ y.bits) (nonzero : d ≡ 0 → ⊥) where
     passes : is_zero (pos y.bits) ≡ false

@@ -12,21 +12,21 @@ use value::refusal::{OUTSIDE_WIDTH, WRONG_KINDS, ZERO_DIVISOR};
 use value::{Computed, Double, IrType, IrValue, Single};
 
 // Pos(n) is n, and Neg(n) is -(n + 1).
-#[derive(Drop)]
+#[derive(Clone, Copy)]
 enum Whole {
     Pos(u64),
     Neg(u64),
 }
 
 // A result, or that it lies outside every width.
-#[derive(Drop)]
+#[derive(Clone, Copy)]
 enum Exact {
     Is(Whole),
     Beyond,
 }
 
 // A size, or that it is 2^64 or more.
-#[derive(Drop)]
+#[derive(Clone, Copy)]
 enum Size {
     Fits(u64),
     Over,

@@ -19,7 +19,7 @@ use Rattle.image.specs.declared.field.Step.TheVariants as step
 use Rattle.loader.specs.Tables.{loaded_from}
 use Rattle.memory.specs.declared.Registers.{Registers}
 use Rattle.memory.specs.declared.Given.{Given}
-use Rattle.memory.specs.declared.Given.TheVariants as goal
+use Rattle.memory.specs.declared.Given.TheVariants as given
 use Rattle.memory.specs.declared.Outcome.{Outcome}
 use Rattle.memory.specs.declared.Outcome.TheVariants as outcome
 use Rattle.memory.specs.declared.Place.{Place}
@@ -67,10 +67,10 @@ module _ (t : State) (good : Good t) where
 
   -- ---- allocate and write
 
-  by_given : (a : Given) (s f b p : List ℕ) → ((k : ℕ) → a ≡ goal.Refused k → tables m s f b p ≡ t.memory) → (n : ℕ) → allocated_reply a ≡ refusal n
+  by_given : (a : Given) (s f b p : List ℕ) → ((k : ℕ) → a ≡ given.Refused k → tables m s f b p ≡ t.memory) → (n : ℕ) → allocated_reply a ≡ refusal n
       → state (tables (after_given a m) s f b p) t.variables ≡ t
-  by_given (goal.Made q r) s f b p left n e = absurd (let z : ◌≡◌ {A = ℕ} 0 1 = cc in omega arith)
-  by_given (goal.Refused k) s f b p left n e = ap (λ (u : Tables). state u t.variables) (left k refl)
+  by_given (given.Made q r) s f b p left n e = absurd (let z : ◌≡◌ {A = ℕ} 0 1 = cc in omega arith)
+  by_given (given.Refused k) s f b p left n e = ap (λ (u : Tables). state u t.variables) (left k refl)
 
   allocate_untouched : (size n : ℕ) → allocated_reply (host_allocated t size).answer ≡ refusal n → allocated_state t (host_allocated t size) ≡ t
   unfolding host_allocated

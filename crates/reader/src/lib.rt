@@ -1,5 +1,7 @@
 // A reader that holds the image and its place, for the tools. Its functions take it apart and leave the work to the readers of crate
 // `image`; `read_header` has plain parameters, so whoever calls it needs no reader.
+#![tactic(auto)]
+
 ghost use Rattle.std.specs.Prelude.{◌≡◌, leb};
 ghost use Rattle.value.specs.Refusal.{over_limit};
 ghost use Rattle.image.specs.Number.{number};
@@ -13,7 +15,7 @@ use image::number::{Number, read_number};
 use loader::Counts;
 use value::refusal::{OVER_LIMIT, UNKNOWN};
 
-#[derive(Drop)]
+#[derive(Clone, Copy)]
 pub struct Reader<'a> {
     pub image: &'a [u8],
     pub place: usize,
@@ -63,7 +65,7 @@ impl<'a> Reader<'a> {
 }
 
 // The version, its counts and the place after the header, or the first refusal's number and place.
-#[derive(Drop)]
+#[derive(Clone, Copy)]
 pub enum Headed {
     Taken(u64, Counts, usize),
     Refused(u64, usize),

@@ -4,7 +4,7 @@ use native.Mathlib.Omega.{arith}
 use mathlib.Core.List.{List, [], ◌∷◌}
 use mathlib.Core.Path.{◌≡◌, refl, ◌∙◌}
 use lib.ListN.{length, set}
-use borrow.Author.Tests.{eq_eqb, ne_eqb}
+use borrow.Author.Tests.{eq-eqb, ne_eqb}
 use Rattle.memory.specs.declared.Registers.{Registers}
 use Rattle.replies.specs.declared.words.Reply.{Reply}
 use Rattle.replies.specs.Words.{registers_in, words_of, registers_put, reply_put}
@@ -38,7 +38,7 @@ words_back (u ∷ v ∷ w ∷ x ∷ y ∷ z ∷ l) h = absurd (omega arith)
 
 pub registers-put : (m : Registers) (l : List ℕ) → length l ≡ 5 → set (set (set (set (set l 0 m.running) 1 m.next) 2 m.counter) 3 m.depth) 4 m.pointers ≡ registers_put m l
 unfolding registers_put
-registers-put m l h = five-words l _ _ _ _ _ h ∙ simp (eq_eqb _ _ h)
+registers-put m l h = five-words l _ _ _ _ _ h ∙ simp (eq-eqb _ _ h)
 
 pub registers-kept : (m : Registers) (l : List ℕ) → (length l ≡ 5 → ⊥) → l ≡ registers_put m l
 unfolding registers_put
@@ -46,7 +46,7 @@ registers-kept m l h = simp (ne_eqb _ _ h)
 
 pub reply-put : (r : Reply) (l : List ℕ) → length l ≡ 4 → set (set (set (set l 0 r.ended) 1 r.tag) 2 r.bits) 3 r.count ≡ reply_put r l
 unfolding reply_put
-reply-put r l h = four-words l _ _ _ _ h ∙ simp (eq_eqb _ _ h)
+reply-put r l h = four-words l _ _ _ _ h ∙ simp (eq-eqb _ _ h)
 
 pub reply-kept : (r : Reply) (l : List ℕ) → (length l ≡ 4 → ⊥) → l ≡ reply_put r l
 unfolding reply_put

@@ -13,7 +13,7 @@ pub const REGISTERS: usize = 5;
 pub const ANSWER: usize = 4;
 
 // A refusal's number or 0, and the words of an answer.
-#[derive(Drop)]
+#[derive(Clone, Copy)]
 pub struct Reply {
     pub number: u64,
     pub ended: u64,

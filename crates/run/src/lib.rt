@@ -1,4 +1,6 @@
 // Steps within a budget, over an image that was loaded.
+#![tactic(auto)]
+
 ghost use Rattle.std.specs.Prelude.{◌≡◌, ◌+◌, ◌-◌};
 ghost use Rattle.memory.specs.Tables.{tables, state};
 ghost use Rattle.step.specs.Items.{items};
@@ -11,7 +13,7 @@ use step::step_at;
 
 // What a run answers, with the count of its steps: returned a value or none (tag 0), paused, or stopped by a refused instruction.
 // Refused and NotLoaded are the entry's, before any step.
-#[derive(Drop)]
+#[derive(Clone, Copy)]
 pub enum Ran {
     Returned(Registers, Found, u64),
     Paused(Registers, u64),

@@ -1,4 +1,6 @@
 // The list of "A sound state" and the rules of encoding, tested on the tables.
+#![tactic(auto)]
+
 ghost use Rattle.std.specs.Prelude.{◌≡◌, ◌<◌, ◌≤◌, length};
 ghost use Rattle.memory.specs.Tables.{tables, pointer, state, every, id_above, frame_ok, bound_ok, pointer_ok, pointers_ok, stored_ok, variable_ok, registers_ok, ends_ok, allocations_ok, memory_ok, sound_of};
 

@@ -1,4 +1,6 @@
 // One step: the instruction at the next place, decided by its opcode.
+#![tactic(auto)]
+
 ghost use Rattle.std.specs.Prelude.{◌≡◌};
 ghost use Rattle.memory.specs.Tables.{tables, state};
 ghost use Rattle.instruction.specs.Code.{stepped, with_next};

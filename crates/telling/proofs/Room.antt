@@ -18,7 +18,7 @@ use Rattle.image_writer.specs.Answer.{outcome, buffer}
 use Rattle.memory.specs.declared.Moved.{Moved}
 use Rattle.memory.specs.declared.Moved.TheVariants as moved
 use Rattle.memory.specs.declared.Given.{Given}
-use Rattle.memory.specs.declared.Given.TheVariants as goal
+use Rattle.memory.specs.declared.Given.TheVariants as given
 use Rattle.memory.specs.declared.Outcome.{Outcome}
 use Rattle.memory.specs.declared.Outcome.TheVariants as done
 use Rattle.memory.specs.declared.Place.{Place}
@@ -73,8 +73,8 @@ fresh-size (moved.Done m) = Answers.ok-size
 fresh-size (moved.Refused number) = Answers.refusal-size number
 
 pub given-size : (g : Given) → size (given_line g) ≤ 128
-given-size (goal.Made p m) = Answers.pointer-size p
-given-size (goal.Refused number) = Answers.refusal-size number
+given-size (given.Made p m) = Answers.pointer-size p
+given-size (given.Refused number) = Answers.refusal-size number
 
 pub outcome-size : (o : Outcome) → size (outcome_line o) ≤ 128
 outcome-size done.Done = Answers.ok-size

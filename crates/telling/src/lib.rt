@@ -1,4 +1,6 @@
 // What the program tells: an entry's answer as its line, the live list, and a start from a line's values.
+#![tactic(auto)]
+
 pub mod answer;
 pub mod begin;
 pub mod bound;

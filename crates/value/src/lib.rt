@@ -1,4 +1,6 @@
 // Values and types of the IR, from lir/value.rs: fourteen kinds of value, twelve types, their tags, bits and bytes.
+#![tactic(auto)]
+
 mod bits;
 mod bytes;
 mod compare;
@@ -8,7 +10,7 @@ pub mod refusal;
 mod signed;
 
 // A Roto value. A `Single` or a `Double` stands where the Rust has an f32 or an f64, so that every NaN keeps its bits.
-#[derive(Drop)]
+#[derive(Clone, Copy)]
 pub enum IrValue {
     Bool(bool),
     U8(u8),
@@ -26,20 +28,20 @@ pub enum IrValue {
     Pointer(u64),
 }
 
-#[derive(Drop)]
+#[derive(Clone, Copy)]
 pub enum Single {
     Number(f32),
     Nan(u32),
 }
 
-#[derive(Drop)]
+#[derive(Clone, Copy)]
 pub enum Double {
     Number(f64),
     Nan(u64),
 }
 
 // The types for `IrValue`s.
-#[derive(Drop)]
+#[derive(Clone, Copy)]
 pub enum IrType {
     Bool,
     U8,
@@ -56,28 +58,28 @@ pub enum IrType {
 }
 
 // What an operation answers: its value, or the number of the first of its checks that fails.
-#[derive(Drop)]
+#[derive(Clone, Copy)]
 pub enum Computed {
     Value(IrValue),
     Refused(u64),
 }
 
 // What a tag names.
-#[derive(Drop)]
+#[derive(Clone, Copy)]
 pub enum Tagged {
     Type(IrType),
     Nothing,
 }
 
 // What a tag and bits are.
-#[derive(Drop)]
+#[derive(Clone, Copy)]
 pub enum Made {
     Value(IrValue),
     Nothing,
 }
 
 // What bytes are: a value, a refusal, or too few.
-#[derive(Drop)]
+#[derive(Clone, Copy)]
 pub enum Loaded {
     Value(IrValue),
     Refused(u64),
@@ -85,7 +87,7 @@ pub enum Loaded {
 }
 
 // The comparisons of IntCmp and of FloatCmp, in the order of their numbers.
-#[derive(Drop)]
+#[derive(Clone, Copy)]
 pub enum IntCmp {
     Eq,
     Ne,
@@ -99,7 +101,7 @@ pub enum IntCmp {
     SGe,
 }
 
-#[derive(Drop)]
+#[derive(Clone, Copy)]
 pub enum FloatCmp {
     Eq,
     Ne,
@@ -110,13 +112,13 @@ pub enum FloatCmp {
 }
 
 // What a number names.
-#[derive(Drop)]
+#[derive(Clone, Copy)]
 pub enum IntComparison {
     Is(IntCmp),
     Nothing,
 }
 
-#[derive(Drop)]
+#[derive(Clone, Copy)]
 pub enum FloatComparison {
     Is(FloatCmp),
     Nothing,

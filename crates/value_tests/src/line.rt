@@ -1,7 +1,7 @@
 // A line of a list as it is read: fields with a space between, numbers in hex.
 
 // The field that the line is in, the first one's letters, each one's number, and whether the last byte was no digit.
-#[derive(Drop)]
+#[derive(Clone, Copy)]
 pub struct Line {
     pub field: u64,
     pub name: u64,

@@ -8,7 +8,7 @@ use mathlib.Core.Path.{◌≡◌, refl, sym, ap, subst, ◌∙◌}
 use mathlib.Core.List.{List, [], ◌∷◌}
 use lib.ListN.{length, get_or, set, drop, length-append, drop_of_length-le}
 use lib.Seq.{sets, drop-cons}
-use borrow.Author.Tests.{lt-ltb, le-ltb, le-leb, lt-leb, eq_eqb, ne_eqb}
+use borrow.Author.Tests.{lt-ltb, le-ltb, le-leb, lt-leb, eq-eqb, ne_eqb}
 use Rattle.words.specs.Number.{all_digits, value_after, digits_say, number, digits, places_within, places, decimal, up_to}
 use Rattle.words.specs.declared.Read.{Read}
 use Rattle.words.specs.declared.Read.TheVariants.{Number, Bad}
@@ -132,7 +132,7 @@ module _ (w : List ℕ) where
 
   pub zero_led : (length w ≡ 0 → ⊥) → (length w ≡ 1 → ⊥) → get_or w 0 0 ≡ 48 → Bad ≡ number w
   unfolding number
-  zero_led h g e = rw (lt-ltb 0 (length w) (omega arith), ne_eqb (length w) 1 g, eq_eqb (get_or w 0 0) 48 e)
+  zero_led h g e = rw (lt-ltb 0 (length w) (omega arith), ne_eqb (length w) 1 g, eq-eqb (get_or w 0 0) 48 e)
 
   pub one_led : length w ≡ 1 → digits_say 0 w ≡ number w
   unfolding number

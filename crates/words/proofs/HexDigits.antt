@@ -8,7 +8,7 @@ use mathlib.Core.List.{List, [], ◌∷◌}
 use lib.ListN.{length, get_or, set, drop, length-drop, drop_of_length-le}
 use lib.Seq.{sets, drop-cons}
 use lib.Dec.{eqb}
-use borrow.Author.Tests.{lt-ltb, le-leb, lt-leb, eq_eqb, ne_eqb}
+use borrow.Author.Tests.{lt-ltb, le-leb, lt-leb, eq-eqb, ne_eqb}
 use Rattle.words.specs.Hex.{between, is_hex_digit, nibble, all_hex, is_hex, bytes_said, hex_answer, hex_buffer, glyph, pairs_of, hex_of}
 use Rattle.words.specs.declared.HexRead.TheVariants.{Bytes, Long, Bad}
 
@@ -76,7 +76,7 @@ length-said (a ∷ b ∷ w) = omega (arith, length-said w)
 module _ (w : List ℕ) where
   pub dash_alone : length w ≡ 1 → eqb (get_or w 0 0) 45 ≡ is_hex w
   unfolding is_hex
-  dash_alone h = rw (eq_eqb (length w) 1 h)
+  dash_alone h = rw (eq-eqb (length w) 1 h)
 
   pub no_digit : length w ≡ 0 → false ≡ is_hex w
   unfolding is_hex
@@ -91,7 +91,7 @@ module _ (w : List ℕ) where
 
   pub even-digits : (length w ≡ 1 → ⊥) → (length w ≡ 0 → ⊥) → length w % 2 ≡ 0 → all_hex w ≡ is_hex w
   unfolding is_hex
-  even-digits h g e = rw (ne_eqb (length w) 1 h, lt-ltb 0 (length w) (omega arith), eq_eqb (length w % 2) 0 e)
+  even-digits h g e = rw (ne_eqb (length w) 1 h, lt-ltb 0 (length w) (omega arith), eq-eqb (length w % 2) 0 e)
 
 -- what reading a word answers and leaves, by the tests of the code
 module _ (w before : List ℕ) where

@@ -9,7 +9,7 @@ use mathlib.Core.List.{List, [], ◌∷◌}
 use lib.ListN.{length, get_or, take, drop, length-drop, drop_of_length-le}
 use lib.Seq.{take_all, drop-cons, drop-drop, length-take-le}
 use lib.Dec.{eqb}
-use borrow.Author.Tests.{eq_eqb, ne_eqb, eqb-true}
+use borrow.Author.Tests.{eq-eqb, ne_eqb, eqb-true}
 use Rattle.words.specs.Words.{until, onto, words, span_from, word_at, Stands, parts}
 use Rattle.words.specs.declared.Span.{Span}
 use Rattle.value.specs.Bytes.{same_bytes}
@@ -23,7 +23,7 @@ at_head s i h = drop-cons s i 0 h ∙ ap (λ (k : ℕ). get_or s i 0 ∷ drop k 
 module _ (b : ℕ) (s : List ℕ) (i : ℕ) where
   pub found_here : i < length s → get_or s i 0 ≡ b → until b (drop i s) ≡ 0
   unfolding until
-  found_here h e = ap (until b) (at_head s i h) ∙ rw (eq_eqb (get_or s i 0) b e)
+  found_here h e = ap (until b) (at_head s i h) ∙ rw (eq-eqb (get_or s i 0) b e)
 
   pub found_later : i < length s → (get_or s i 0 ≡ b → ⊥) → until b (drop i s) ≡ suc (until b (drop (i + 1) s))
   unfolding until
@@ -38,7 +38,7 @@ unfolding until
 until-within b [] = omega arith
 until-within b (x ∷ xs) =
     elim (ℕ_discrete x b) [
-      | yes e ↦ rw (eq_eqb x b e) (omega arith)
+      | yes e ↦ rw (eq-eqb x b e) (omega arith)
       | no e ↦ rw (ne_eqb x b e) (omega (arith, until-within b xs))
     ]
 
@@ -62,7 +62,7 @@ module _ (a b : List ℕ) (i : ℕ) {whole : Bool} (h : i < length a) (g : i < l
 
   pub same_byte : get_or a i 0 ≡ get_or b i 0 → same_bytes (drop (i + 1) a) (drop (i + 1) b) ≡ whole
   unfolding same_bytes
-  same_byte d = sym (ap₂ same_bytes (at_head a i h) (at_head b i g) ∙ rw (eq_eqb (get_or a i 0) (get_or b i 0) d)) ∙ e
+  same_byte d = sym (ap₂ same_bytes (at_head a i h) (at_head b i g) ∙ rw (eq-eqb (get_or a i 0) (get_or b i 0) d)) ∙ e
 
 pub all_same : (a b : List ℕ) (i : ℕ) {whole : Bool} → length a ≤ i → length b ≤ i → same_bytes (drop i a) (drop i b) ≡ whole → true ≡ whole
 unfolding same_bytes
@@ -85,7 +85,7 @@ unfolding words parts
 some_word [] = omega arith
 some_word (x ∷ xs) =
     elim (ℕ_discrete x 32) [
-      | yes e ↦ rw (eq_eqb x 32 e) (omega arith)
+      | yes e ↦ rw (eq-eqb x 32 e) (omega arith)
       | no e ↦ rw (ne_eqb x 32 e) (go (words xs) (some_word xs))
     ]
   where
@@ -100,7 +100,7 @@ length-onto x (w ∷ ws) h = refl
 module _ (line : List ℕ) (i : ℕ) where
   pub at_space : i < length line → get_or line i 0 ≡ 32 → length (words (drop i line)) ≡ suc (length (words (drop (i + 1) line)))
   unfolding words parts
-  at_space h e = ap (λ (l : List ℕ). length (words l)) (at_head line i h) ∙ rw (eq_eqb (get_or line i 0) 32 e)
+  at_space h e = ap (λ (l : List ℕ). length (words l)) (at_head line i h) ∙ rw (eq-eqb (get_or line i 0) 32 e)
 
   pub at_other : i < length line → (get_or line i 0 ≡ 32 → ⊥) → length (words (drop i line)) ≡ length (words (drop (i + 1) line))
   unfolding words parts
@@ -120,7 +120,7 @@ module _ (b : ℕ) (last : List (List ℕ)) where
   first_part [] h = absurd (omega arith)
   first_part (x ∷ xs) h =
       elim (ℕ_discrete x b) [
-        | yes e ↦ rw (eq_eqb x b e)
+        | yes e ↦ rw (eq-eqb x b e)
         | no e ↦ rw (ne_eqb x b e) (ap (onto x) (first_part xs (less (rw (ne_eqb x b e) at h))))
       ]
     where
@@ -131,7 +131,7 @@ module _ (b : ℕ) (last : List (List ℕ)) where
   unfolding until parts
   last-part f x [] h =
       elim (ℕ_discrete x b) [
-        | yes e ↦ absurd (none (rw (eq_eqb x b e) at h))
+        | yes e ↦ absurd (none (rw (eq-eqb x b e) at h))
         | no e ↦ rw (ne_eqb x b e) (f x)
       ]
     where
@@ -139,7 +139,7 @@ module _ (b : ℕ) (last : List (List ℕ)) where
       none h = omega arith
   last-part f x (y ∷ ys) h =
       elim (ℕ_discrete x b) [
-        | yes e ↦ absurd (none (rw (eq_eqb x b e) at h))
+        | yes e ↦ absurd (none (rw (eq-eqb x b e) at h))
         | no e ↦ rw (ne_eqb x b e) (ap (onto x) (last-part f y ys (less (rw (ne_eqb x b e) at h))))
       ]
     where

@@ -10,7 +10,7 @@ use mathlib.Core.List.{List, [], ◌∷◌}
 use lib.ListN.{length, get_or, set, drop, length-drop, get_or-eq_default}
 use lib.Seq.{sets, get_or-drop, drop-drop}
 use lib.Dec.{leb}
-use borrow.Author.Tests.{le-leb, lt-leb, eq_eqb, ne_eqb}
+use borrow.Author.Tests.{le-leb, lt-leb, eq-eqb, ne_eqb}
 use Rattle.value.specs.Answer.{pick}
 use Rattle.value.specs.Bytes.{same_bytes}
 use Rattle.words.specs.Number.{number}
@@ -61,7 +61,7 @@ unfolding words parts
 words-bound [] = omega arith
 words-bound (x ∷ xs) =
     elim (ℕ_discrete x 32) [
-      | yes e ↦ rw (eq_eqb x 32 e) (omega (arith, words-bound xs))
+      | yes e ↦ rw (eq-eqb x 32 e) (omega (arith, words-bound xs))
       | no e ↦ rw (ne_eqb x 32 e) (omega (arith, words-bound xs, length-onto x (words xs) (some_word xs)))
     ]
 

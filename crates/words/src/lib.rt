@@ -1,4 +1,6 @@
 // The words of the program's lines: readers and writers of numbers, kinds, HEX and values, on lent slices.
+#![tactic(auto)]
+
 pub mod bound;
 pub mod hex;
 pub mod kind;
@@ -8,21 +10,21 @@ pub mod text;
 pub mod word;
 
 // What a word says, where it can be read.
-#[derive(Drop)]
+#[derive(Clone, Copy)]
 pub enum Read {
     Number(u64),
     Bad,
 }
 
 // The place after what is written, or that a piece had no room.
-#[derive(Drop)]
+#[derive(Clone, Copy)]
 pub enum Written {
     To(usize),
     Full,
 }
 
 // How many bytes a word of HEX says, or that there are too many for the buffer, or that it cannot be read.
-#[derive(Drop)]
+#[derive(Clone, Copy)]
 pub enum HexRead {
     Bytes(usize),
     Long,
@@ -30,14 +32,14 @@ pub enum HexRead {
 }
 
 // Where a word stands in its line: from its first byte to the place after its last.
-#[derive(Drop)]
+#[derive(Clone, Copy)]
 pub struct Span {
     pub from: usize,
     pub to: usize,
 }
 
 // What two words say as a kind and its bits: the tag and the bits, or which of the two cannot be read.
-#[derive(Drop)]
+#[derive(Clone, Copy)]
 pub enum Pair {
     Value(u64, u64),
     BadKind,
@@ -45,7 +47,7 @@ pub enum Pair {
 }
 
 // How many values were read, or the word, counted from 0, that cannot be.
-#[derive(Drop)]
+#[derive(Clone, Copy)]
 pub enum Values {
     Count(usize),
     Bad(usize),

@@ -1,5 +1,5 @@
 -- `begin` meets its contract, by what its tests say.
-use borrow.Author.Tests.{le-leb, lt-leb, eq_eqb, ne_eqb}
+use borrow.Author.Tests.{le-leb, lt-leb, eq-eqb, ne_eqb}
 use Rattle.image.specs.Parse.{and_then}
 use Rattle.reader.specs.Header.{begun}
 use borrow.Author.Rules.{rules}
@@ -18,7 +18,7 @@ enum-known-version-2 c = search rules
 
 returns-2 : tie.Need-returns-2
 unfolding begun and_then
-returns-2 c = rw (le-leb _ _ c.before.before.before.before.if1.false, c.before.before.version.given.1, eq_eqb _ _ c.if2.true)
+returns-2 c = rw (le-leb _ _ c.before.before.before.before.if1.false, c.before.before.version.given.1, eq-eqb _ _ c.if2.true)
 
 returns-3 : tie.Need-returns-3
 unfolding begun and_then

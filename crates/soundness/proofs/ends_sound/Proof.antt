@@ -2,7 +2,7 @@
 use Rattle.soundness.proofs.ends_sound.Statement.{statement}
 use Rattle.soundness.proofs.ends_sound.Tie as tie
 use Rattle.memory.specs.Tables.{ends_ok}
-use borrow.Author.Tests.{eq_eqb, ne_eqb}
+use borrow.Author.Tests.{eq-eqb, ne_eqb}
 
 returns : tie.Need-returns
 unfolding ends_ok
@@ -15,15 +15,15 @@ unfolding ends_ok
 returns-2 c =
     simp (
       ne_eqb _ _ c.if2.true,
-      eq_eqb _ _ c.before.if1.false,
+      eq-eqb _ _ c.before.if1.false,
     )
 
 returns-3 : tie.Need-returns-3
 unfolding ends_ok
 returns-3 c =
     simp (
-      eq_eqb _ _ c.if2.false,
-      eq_eqb _ _ c.before.if1.false,
+      eq-eqb _ _ c.if2.false,
+      eq-eqb _ _ c.before.if1.false,
     )
 
 pub ends-sound-spec : {M : Type 1} → statement M

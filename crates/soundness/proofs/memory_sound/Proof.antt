@@ -5,7 +5,7 @@ use Rattle.soundness.proofs.memory_sound.Statement.{statement}
 use Rattle.soundness.proofs.memory_sound.Tie as tie
 use Rattle.memory.specs.Tables.{tables, memory_ok}
 use borrow.Author.Rules.{rules}
-use borrow.Author.Tests.{le-leb, lt-leb, eq_eqb, ne_eqb, not-true, not-false}
+use borrow.Author.Tests.{le-leb, lt-leb, eq-eqb, ne_eqb, not-true, not-false}
 use mathlib.Core.Path.{◌∙◌, sym}
 use native.Mathlib.Omega.{arith}
 
@@ -24,7 +24,7 @@ returns-2 : tie.Need-returns-2
 unfolding memory_ok
 returns-2 c =
     simp (
-      eq_eqb _ _ c.if2.true,
+      eq-eqb _ _ c.if2.true,
       not-false c.before.before.ready.result c.before.if1.false,
       ← c.before.before.ready.ensures,
     )

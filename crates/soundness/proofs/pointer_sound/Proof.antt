@@ -3,14 +3,14 @@ use Rattle.soundness.proofs.Last.{pointer-last}
 use Rattle.soundness.proofs.pointer_sound.Statement.{statement}
 use Rattle.soundness.proofs.pointer_sound.Tie as tie
 use Rattle.memory.specs.Tables.{pointer_ok}
-use borrow.Author.Tests.{eq_eqb, ne_eqb}
+use borrow.Author.Tests.{eq-eqb, ne_eqb}
 use mathlib.Core.Path.{sym}
 
 returns : tie.Need-returns
 unfolding pointer_ok
 returns c =
     simp
-    (eq_eqb _ _ c.if1.true)
+    (eq-eqb _ _ c.if1.true)
 
 returns-2 : tie.Need-returns-2
 unfolding pointer_ok
@@ -25,7 +25,7 @@ unfolding pointer_ok
 returns-3 c =
     simp (
       ne_eqb _ _ c.if3.true,
-      eq_eqb _ _ c.before.if2.false,
+      eq-eqb _ _ c.before.if2.false,
       ne_eqb _ _ c.before.before.if1.false,
     )
 
@@ -34,8 +34,8 @@ unfolding pointer_ok
 returns-4 c =
     simp (
       ne_eqb _ _ c.if4.true,
-      eq_eqb _ _ c.before.if3.false,
-      eq_eqb _ _ c.before.before.if2.false,
+      eq-eqb _ _ c.before.if3.false,
+      eq-eqb _ _ c.before.before.if2.false,
       ne_eqb _ _ c.before.before.before.if1.false,
     )
 

@@ -2,7 +2,7 @@
 use Rattle.soundness.proofs.registers_sound.Statement.{statement}
 use Rattle.soundness.proofs.registers_sound.Tie as tie
 use Rattle.memory.specs.Tables.{registers_ok}
-use borrow.Author.Tests.{le-leb, lt-leb, eq_eqb, ne_eqb}
+use borrow.Author.Tests.{le-leb, lt-leb, eq-eqb, ne_eqb}
 
 returns : tie.Need-returns
 unfolding registers_ok
@@ -14,7 +14,7 @@ returns-2 : tie.Need-returns-2
 unfolding registers_ok
 returns-2 c =
     simp (
-      eq_eqb _ _ c.if2.true,
+      eq-eqb _ _ c.if2.true,
       le-leb _ _ c.before.if1.false,
     )
 
@@ -31,7 +31,7 @@ returns-4 : tie.Need-returns-4
 unfolding registers_ok
 returns-4 c =
     simp (
-      eq_eqb _ _ c.if3.false,
+      eq-eqb _ _ c.if3.false,
       ne_eqb _ _ c.before.if2.false,
       le-leb _ _ c.before.before.if1.false,
     )

@@ -4,7 +4,7 @@ use Rattle.soundness.proofs.sound.Statement.{statement}
 use Rattle.soundness.proofs.sound.Tie as tie
 use Rattle.memory.specs.Tables.{tables, state, sound_of}
 use borrow.Author.Rules.{rules}
-use borrow.Author.Tests.{eq_eqb, ne_eqb, not-true, not-false}
+use borrow.Author.Tests.{eq-eqb, ne_eqb, not-true, not-false}
 use mathlib.Core.Path.{◌∙◌, sym}
 
 memory-sound-requires : tie.Need-memory-sound-requires
@@ -36,7 +36,7 @@ returns-3 c =
     simp (
       not-true c.before.registers-sound.result c.if3.true,
       ← c.before.registers-sound.ensures,
-      eq_eqb _ _ c.before.before.if2.false,
+      eq-eqb _ _ c.before.before.if2.false,
       not-false c.before.before.before.before.memory-sound.result c.before.before.before.if1.false,
       ← c.before.before.before.before.memory-sound.ensures,
     )

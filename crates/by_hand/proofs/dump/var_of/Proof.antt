@@ -1,11 +1,11 @@
 -- `dump::var_of` meets its contract, by its test.
-use borrow.Author.Tests.{eq_eqb, ne_eqb}
+use borrow.Author.Tests.{eq-eqb, ne_eqb}
 use borrow.Author.Rules.{rules}
 use Rattle.by_hand.proofs.dump.var_of.Statement.{statement}
 use Rattle.by_hand.proofs.dump.var_of.Tie as tie
 
 returns : tie.Need-returns
-returns c = rw (eq_eqb c.before.args.word 0 c.if1.true)
+returns c = rw (eq-eqb c.before.args.word 0 c.if1.true)
 
 sub-t3 : tie.Need-overflow-sub-t3
 sub-t3 c = search rules

@@ -1,7 +1,7 @@
 -- `begin::begin_in` meets its contract: its calls, one after another, and the definition's branch at the test.
 use native.Mathlib.Omega.{arith}
 use mathlib.Core.Path.{sym, ◌∙◌}
-use borrow.Author.Tests.{eq_eqb, ne_eqb}
+use borrow.Author.Tests.{eq-eqb, ne_eqb}
 use Rattle.calls.specs.Begin.{begun_in}
 use Rattle.calls.proofs.Rooms.{room-given}
 use borrow.Author.Rules.{rules}
@@ -47,7 +47,7 @@ same-length-7 c = search rules
 
 returns-2 : tie.Need-returns-2
 unfolding begun_in
-returns-2 c = simp (← c.before.before.before.before.before.before.before.before.before.before.before.before.before.before.before.before.before.before.before.room_in_lem.ensures, eq_eqb _ _ c.before.before.before.before.before.before.before.before.before.before.before.before.before.before.before.before.before.before.if1.false, ← c.before.before.before.before.before.before.before.before.before.make-slots.ensures, ← c.before.before.before.before.before.before.before.before.before.before.before.before.before.before.before.before.set-variables.ensures, ← c.run_at.ensures)
+returns-2 c = simp (← c.before.before.before.before.before.before.before.before.before.before.before.before.before.before.before.before.before.before.before.room_in_lem.ensures, eq-eqb _ _ c.before.before.before.before.before.before.before.before.before.before.before.before.before.before.before.before.before.before.if1.false, ← c.before.before.before.before.before.before.before.before.before.make-slots.ensures, ← c.before.before.before.before.before.before.before.before.before.before.before.before.before.before.before.before.set-variables.ensures, ← c.run_at.ensures)
 
 pub begin-in-spec : {M : Type 1} → statement M
 begin-in-spec =

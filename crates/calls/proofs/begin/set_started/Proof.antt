@@ -1,5 +1,5 @@
 -- `begin::set_started` meets its contract: each return is the definition's branch at the tests taken on the way.
-use borrow.Author.Tests.{eq_eqb, ne_eqb}
+use borrow.Author.Tests.{eq-eqb, ne_eqb}
 use Rattle.calls.specs.Begin.{started_set}
 use Rattle.calls.proofs.Starts.{no_first_tag, no_first_bits, first-value}
 use borrow.Author.Rules.{rules}
@@ -14,7 +14,7 @@ same_length c = search rules
 
 returns : tie.Need-returns
 unfolding started_set
-returns c = simp (eq_eqb _ _ c.before.before.before.before.if1.true) c.before.before.set_values.ensures
+returns c = simp (eq-eqb _ _ c.before.before.before.before.if1.true) c.before.before.set_values.ensures
 
 returns-2 : tie.Need-returns-2
 unfolding started_set

@@ -1,5 +1,5 @@
 -- `call::call` meets its contract: its calls, one after another, by cases of the entry's place.
-use borrow.Author.Tests.{eq_eqb, ne_eqb}
+use borrow.Author.Tests.{eq-eqb, ne_eqb}
 use Rattle.calls.specs.Code.{called_of}
 use borrow.Author.Rules.{rules}
 use Rattle.calls.proofs.call.call.Statement.{statement}
@@ -10,7 +10,7 @@ read-call-requires c κs = search rules
 
 returns : tie.Need-returns
 unfolding called_of
-returns c = simp (← c.before.before.read-call.ensures, eq_eqb _ _ c.if1.true)
+returns c = simp (← c.before.before.read-call.ensures, eq-eqb _ _ c.if1.true)
 
 place-in-requires : tie.Need-place-in-requires
 place-in-requires c κs = search rules

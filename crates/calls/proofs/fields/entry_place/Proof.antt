@@ -1,5 +1,5 @@
 -- `fields::entry_place` meets its contract: each return is the definition's branch at the tests taken on the way.
-use borrow.Author.Tests.{lt-ltb, le-ltb, eq_eqb, ne_eqb}
+use borrow.Author.Tests.{lt-ltb, le-ltb, eq-eqb, ne_eqb}
 use Rattle.calls.specs.Fields.{entry_of}
 use borrow.Author.Rules.{rules}
 use Rattle.calls.proofs.fields.entry_place.Statement.{statement}
@@ -7,7 +7,7 @@ use Rattle.calls.proofs.fields.entry_place.Tie as tie
 
 returns : tie.Need-returns
 unfolding entry_of
-returns c = simp (eq_eqb _ _ c.if1.true)
+returns c = simp (eq-eqb _ _ c.if1.true)
 
 mul-t6 : tie.Need-overflow-mul-t6
 mul-t6 c = search rules

@@ -1,5 +1,5 @@
 -- `fields::optional_operand` meets its contract: its calls, one after another, and the definition's branch at the test.
-use borrow.Author.Tests.{eq_eqb, ne_eqb}
+use borrow.Author.Tests.{eq-eqb, ne_eqb}
 use Rattle.calls.specs.Fields.{optional_operand}
 use borrow.Author.Rules.{rules}
 use Rattle.calls.proofs.fields.optional_operand.Statement.{statement}
@@ -10,7 +10,7 @@ read-field-requires c κs = search rules
 
 returns : tie.Need-returns
 unfolding optional_operand
-returns c = simp (← c.before.before.read-field.ensures, eq_eqb _ _ c.if1.true)
+returns c = simp (← c.before.before.read-field.ensures, eq-eqb _ _ c.if1.true)
 
 read-operand-requires : tie.Need-read-operand-requires
 read-operand-requires c κs = search rules

@@ -1,5 +1,5 @@
 -- `fields::optional_to` meets its contract: its calls, one after another, and the definition's branch at the test.
-use borrow.Author.Tests.{eq_eqb, ne_eqb}
+use borrow.Author.Tests.{eq-eqb, ne_eqb}
 use Rattle.calls.specs.Fields.{optional_to}
 use borrow.Author.Rules.{rules}
 use Rattle.calls.proofs.fields.optional_to.Statement.{statement}
@@ -10,7 +10,7 @@ optional-variable-requires c κs = search rules
 
 returns : tie.Need-returns
 unfolding optional_to
-returns c = simp (← c.before.before.optional-variable.ensures, eq_eqb _ _ c.if1.true)
+returns c = simp (← c.before.before.optional-variable.ensures, eq-eqb _ _ c.if1.true)
 
 read-field-requires : tie.Need-read-field-requires
 read-field-requires c κs = search rules

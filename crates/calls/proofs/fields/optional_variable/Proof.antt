@@ -1,5 +1,5 @@
 -- `fields::optional_variable` meets its contract: its calls, one after another, and the definition's branch at the tests.
-use borrow.Author.Tests.{le-leb, lt-leb, eq_eqb, ne_eqb}
+use borrow.Author.Tests.{le-leb, lt-leb, eq-eqb, ne_eqb}
 use Rattle.calls.specs.Fields.{optional_variable, one_more}
 use borrow.Author.Rules.{rules}
 use Rattle.calls.proofs.fields.optional_variable.Statement.{statement}
@@ -10,7 +10,7 @@ read-field-requires c κs = search rules
 
 returns : tie.Need-returns
 unfolding optional_variable
-returns c = simp (← c.before.before.read-field.ensures, eq_eqb _ _ c.if1.true)
+returns c = simp (← c.before.before.read-field.ensures, eq-eqb _ _ c.if1.true)
 
 read-field-requires-2 : tie.Need-read-field-requires-2
 read-field-requires-2 c κs = search rules

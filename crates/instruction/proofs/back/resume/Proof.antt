@@ -1,17 +1,17 @@
 -- `back::resume` meets its contract: each return is the definition's branch at the tests taken on the way.
 use borrow.Author.Rules.{rules}
-use borrow.Author.Tests.{eq_eqb, ne_eqb}
+use borrow.Author.Tests.{eq-eqb, ne_eqb}
 use Rattle.instruction.specs.Storage.{back_of}
 use Rattle.instruction.proofs.back.resume.Statement.{statement}
 use Rattle.instruction.proofs.back.resume.Tie as tie
 
 returns : tie.Need-returns
 unfolding back_of
-returns c = simp (eq_eqb _ _ c.if1.true)
+returns c = simp (eq-eqb _ _ c.if1.true)
 
 returns-2 : tie.Need-returns-2
 unfolding back_of
-returns-2 c = simp (ne_eqb _ _ c.before.if1.false, eq_eqb _ _ c.if2.true)
+returns-2 c = simp (ne_eqb _ _ c.before.if1.false, eq-eqb _ _ c.if2.true)
 
 sub-set-variable : tie.Need-overflow-sub-set-variable
 sub-set-variable c = search rules

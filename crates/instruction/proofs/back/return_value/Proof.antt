@@ -1,6 +1,6 @@
 -- `back::return_value` meets its contract: its calls, one after another, and the definition's branch at the tests.
 use borrow.Author.Rules.{rules}
-use borrow.Author.Tests.{eq_eqb, ne_eqb}
+use borrow.Author.Tests.{eq-eqb, ne_eqb}
 use Rattle.instruction.specs.Storage.{returned_of}
 use Rattle.instruction.proofs.back.return_value.Statement.{statement}
 use Rattle.instruction.proofs.back.return_value.Tie as tie
@@ -16,7 +16,7 @@ same_length c = search rules
 
 returns : tie.Need-returns
 unfolding returned_of
-returns c = simp (← c.before.before.before.before.before.before.read-field.ensures, eq_eqb _ _ c.before.before.before.before.if1.true) c.before.before.leave.ensures
+returns c = simp (← c.before.before.before.before.before.before.read-field.ensures, eq-eqb _ _ c.before.before.before.before.if1.true) c.before.before.leave.ensures
 
 read-operand-requires : tie.Need-read-operand-requires
 read-operand-requires c κs = search rules
@@ -29,7 +29,7 @@ same-length-2 c = search rules
 
 returns-2 : tie.Need-returns-2
 unfolding returned_of
-returns-2 c = simp (← c.before.before.before.before.before.before.before.read-field.ensures, ne_eqb _ _ c.before.before.before.before.before.if1.false, ← c.before.before.before.read-operand.ensures, ← c.before.before.evaluate.ensures, eq_eqb _ _ c.if2.true)
+returns-2 c = simp (← c.before.before.before.before.before.before.before.read-field.ensures, ne_eqb _ _ c.before.before.before.before.before.if1.false, ← c.before.before.before.read-operand.ensures, ← c.before.before.evaluate.ensures, eq-eqb _ _ c.if2.true)
 
 leave-requires-2 : tie.Need-leave-requires-2
 leave-requires-2 c κs = search rules

@@ -1,5 +1,5 @@
 -- `field::read_field` meets its contract: the definition's branch at the test, a byte below 128, or the number that was read.
-use borrow.Author.Tests.{eq_eqb, ne_eqb}
+use borrow.Author.Tests.{eq-eqb, ne_eqb}
 use Rattle.instruction.specs.Decode.{field_at}
 use Rattle.instruction.proofs.Short.{field_of_byte}
 use borrow.Author.Rules.{rules}
@@ -8,7 +8,7 @@ use Rattle.instruction.proofs.field.read_field.Tie as tie
 
 returns : tie.Need-returns
 unfolding field_at
-returns c = simp (eq_eqb _ _ c.if1.true)
+returns c = simp (eq-eqb _ _ c.if1.true)
 
 shared-slice-read-wide : tie.Need-shared-slice-read-wide
 shared-slice-read-wide c = search rules

@@ -1,13 +1,13 @@
 -- `step::finish` meets its contract: each return is the definition's branch at its test.
 use borrow.Author.Rules.{rules}
-use borrow.Author.Tests.{eq_eqb, ne_eqb}
+use borrow.Author.Tests.{eq-eqb, ne_eqb}
 use Rattle.instruction.specs.Code.{finished_of}
 use Rattle.instruction.proofs.step.finish.Statement.{statement}
 use Rattle.instruction.proofs.step.finish.Tie as tie
 
 returns : tie.Need-returns
 unfolding finished_of
-returns c = simp (eq_eqb _ _ c.if1.true)
+returns c = simp (eq-eqb _ _ c.if1.true)
 
 set-variable-requires : tie.Need-set-variable-requires
 set-variable-requires c κs = search rules

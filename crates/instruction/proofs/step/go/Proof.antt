@@ -1,13 +1,13 @@
 -- `step::go` meets its contract: each return is the definition's branch at the tests taken on the way.
 use borrow.Author.Rules.{rules}
-use borrow.Author.Tests.{lt-ltb, le-ltb, eq_eqb, ne_eqb}
+use borrow.Author.Tests.{lt-ltb, le-ltb, eq-eqb, ne_eqb}
 use Rattle.instruction.specs.Code.{went_of}
 use Rattle.instruction.proofs.step.go.Statement.{statement}
 use Rattle.instruction.proofs.step.go.Tie as tie
 
 returns : tie.Need-returns
 unfolding went_of
-returns c = simp (eq_eqb _ _ c.if1.true)
+returns c = simp (eq-eqb _ _ c.if1.true)
 
 mul-n : tie.Need-overflow-mul-n
 mul-n c = search rules

@@ -1,6 +1,6 @@
 -- `step::middle` meets its contract: each return is the definition's branch at the tests taken on the way.
 use borrow.Author.Rules.{rules}
-use borrow.Author.Tests.{lt-ltb, le-ltb, eq_eqb, ne_eqb}
+use borrow.Author.Tests.{lt-ltb, le-ltb, eq-eqb, ne_eqb}
 use Rattle.instruction.specs.Code.{middle_of}
 use Rattle.instruction.proofs.step.middle.Statement.{statement}
 use Rattle.instruction.proofs.step.middle.Tie as tie
@@ -17,14 +17,14 @@ read-field-requires-2 c κs = search rules
 
 returns-2 : tie.Need-returns-2
 unfolding middle_of
-returns-2 c = simp (le-ltb _ _ c.before.before.if1.false, eq_eqb _ _ c.before.if2.true) c.read-field2.ensures
+returns-2 c = simp (le-ltb _ _ c.before.before.if1.false, eq-eqb _ _ c.before.if2.true) c.read-field2.ensures
 
 read-field-requires-3 : tie.Need-read-field-requires-3
 read-field-requires-3 c κs = search rules
 
 returns-3 : tie.Need-returns-3
 unfolding middle_of
-returns-3 c = simp (le-ltb _ _ c.before.before.before.if1.false, ne_eqb _ _ c.before.before.if2.false, eq_eqb _ _ c.before.if3.true) c.read-field3.ensures
+returns-3 c = simp (le-ltb _ _ c.before.before.before.if1.false, ne_eqb _ _ c.before.before.if2.false, eq-eqb _ _ c.before.if3.true) c.read-field3.ensures
 
 returns-4 : tie.Need-returns-4
 unfolding middle_of

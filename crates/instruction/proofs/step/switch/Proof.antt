@@ -1,6 +1,6 @@
 -- `step::switch` meets its contract: its calls, one after another, and the definition's branch at the test.
 use borrow.Author.Rules.{rules}
-use borrow.Author.Tests.{eq_eqb, ne_eqb}
+use borrow.Author.Tests.{eq-eqb, ne_eqb}
 use Rattle.instruction.specs.Code.{switched_of}
 use Rattle.instruction.proofs.step.switch.Statement.{statement}
 use Rattle.instruction.proofs.step.switch.Tie as tie
@@ -19,7 +19,7 @@ key-requires c κs = search rules
 
 returns : tie.Need-returns
 unfolding switched_of
-returns c = simp (eq_eqb _ _ c.if1.true, ← c.before.before.key.ensures, ← c.before.before.before.evaluate.ensures, ← c.before.before.before.before.read-field.ensures, ← c.before.before.before.before.before.read-operand.ensures)
+returns c = simp (eq-eqb _ _ c.if1.true, ← c.before.before.key.ensures, ← c.before.before.before.evaluate.ensures, ← c.before.before.before.before.read-field.ensures, ← c.before.before.before.before.before.read-operand.ensures)
 
 branch-requires : tie.Need-branch-requires
 branch-requires c κs = search rules

@@ -1,6 +1,6 @@
 -- `variables::read_variable` meets its contract: each return is the definition's branch at the tests taken on the way.
 use borrow.Author.Rules.{rules}
-use borrow.Author.Tests.{lt-ltb, le-ltb, eq_eqb, ne_eqb}
+use borrow.Author.Tests.{lt-ltb, le-ltb, eq-eqb, ne_eqb}
 use Rattle.instruction.specs.Variables.{read_variable}
 use Rattle.instruction.proofs.variables.read_variable.Statement.{statement}
 use Rattle.instruction.proofs.variables.read_variable.Tie as tie
@@ -29,7 +29,7 @@ returns c = simp (lt-ltb _ _ c.before.before.before.if1.true, ne_eqb _ _ c.befor
 
 returns-2 : tie.Need-returns-2
 unfolding read_variable
-returns-2 c = simp (lt-ltb _ _ c.before.before.if1.true, eq_eqb _ _ c.if2.false)
+returns-2 c = simp (lt-ltb _ _ c.before.before.if1.true, eq-eqb _ _ c.if2.false)
 
 returns-3 : tie.Need-returns-3
 unfolding read_variable

@@ -1,0 +1,14 @@
+-- `length_of` meets its contract: the bytes counted and those of what is left make up the number's.
+use Prim.Native.Nat.{◌+◌}
+use native.Mathlib.Omega.{arith}
+use mathlib.Core.Path.{◌≡◌, refl, ap}
+use lib.ListN.{length}
+use Rattle.image.specs.Number.{bytes_from, bytes_of}
+use Rattle.image.proofs.Bytes.{last_byte, more_bytes, Held, held_spare, held-less}
+use Rattle.image.proofs.number.length_of.Given as goal
+
+abbrev pub invariant-loop-left : goal.invariant-loop-left
+invariant-loop-left l = (l.n + length (bytes_from l.spare l.left) ≡ 1 + length (bytes_of l.v)) × Held l.spare l.left × (l.n + l.spare ≡ 10)
+
+abbrev pub decreases-loop-left : goal.decreases-loop-left
+decreases-loop-left l = l.spare

@@ -1,0 +1,17 @@
+-- `write_number` meets its contract: storing the bytes of what is left finishes the whole store.
+use Prim.Native.Nat.{◌+◌}
+use native.Mathlib.Omega.{arith}
+use borrow.Author.Rules.{rules}
+use mathlib.Core.Path.{◌≡◌, refl, ap}
+use lib.ListN.{length, length-set}
+use lib.Seq.{sets}
+use Rattle.image.specs.Number.{bytes_from, bytes_of}
+use Rattle.image.proofs.Bytes.{last_byte, more_bytes, Held, held_spare, held-less, write-more, write-last, stored, no_room}
+use Rattle.image.proofs.number.write_number.Given as goal
+
+abbrev pub invariant-loop-left : goal.invariant-loop-left
+invariant-loop-left l =
+    (sets l.out l.at (bytes_from l.spare l.left) ≡ sets l.initial.out l.start (bytes_of l.v)) × (l.at + length (bytes_from l.spare l.left) ≡ l.start + length (bytes_of l.v)) × Held l.spare l.left × (length l.out ≡ length l.initial.out)
+
+abbrev pub decreases-loop-left : goal.decreases-loop-left
+decreases-loop-left l = l.spare

@@ -1,0 +1,17 @@
+-- `hex::decode` meets its contract: the pairs that are left, stored after those that are, are all of them.
+use Prim.Native.Nat.{◌≤◌, ◌-◌, ◌*◌, ◌/◌}
+use native.Mathlib.Omega.{arith}
+use borrow.Author.Rules.{rules}
+use mathlib.Core.Path.{◌≡◌, refl}
+use lib.ListN.{length, drop, length-set}
+use lib.Seq.{sets}
+use Rattle.words.specs.Hex.{bytes_said}
+use Rattle.words.proofs.HexDigits.{decode_more, decode_done}
+use Rattle.words.proofs.hex.decode.Given as goal
+
+abbrev pub invariant-loop-i : goal.invariant-loop-i
+invariant-loop-i l =
+    (sets l.out l.i (bytes_said (drop l.j l.word)) ≡ sets l.initial.out 0 (bytes_said l.word)) × (l.j ≡ 2 * l.i) × (length l.out ≡ length l.initial.out) × (l.i ≤ length l.word / 2)
+
+abbrev pub decreases-loop-i : goal.decreases-loop-i
+decreases-loop-i l = length l.word / 2 - l.i

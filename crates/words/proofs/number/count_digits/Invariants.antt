@@ -1,0 +1,13 @@
+-- `number::count_digits` meets its contract: the digits counted and those that are left are all of them.
+use Prim.Native.Nat.{◌+◌, ◌-◌}
+use native.Mathlib.Omega.{arith}
+use mathlib.Core.Path.{◌≡◌, refl}
+use Rattle.words.specs.Number.{places_within, places}
+use Rattle.words.proofs.Digits.{last-place, Held, Next, next_place}
+use Rattle.words.proofs.number.count_digits.Given as goal
+
+abbrev pub invariant-loop-left : goal.invariant-loop-left
+invariant-loop-left l = (l.count + places_within (20 - l.count) l.left ≡ 1 + places l.n) × Held (20 - l.count) l.left
+
+abbrev pub decreases-loop-left : goal.decreases-loop-left
+decreases-loop-left l = 20 - l.count
