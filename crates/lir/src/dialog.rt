@@ -35,6 +35,7 @@ fn next_turn(r: Turn, s: Source) -> Talk {
 
 // Answers the line, where it is whole.
 fn respond(
+    rt: &HostRuntime,
     t: Talk,
     line: &[u8],
     image: &mut [u8],
@@ -67,7 +68,7 @@ fn respond(
         vars,
     );
     let text = r.text;
-    say::answer(out, text);
+    say::answer(rt, out, text);
     next_turn(r, s)
 }
 
@@ -79,6 +80,7 @@ fn with_source(t: Talk, source: Source) -> Talk {
 
 // Some more of the input, and the answer where a line is whole.
 fn take_more(
+    rt: &HostRuntime,
     t: Talk,
     input: &mut [u8],
     line: &mut [u8],
@@ -92,8 +94,9 @@ fn take_more(
     vars: &mut [u64],
 ) -> Talk {
     let before = t.source;
-    let source = advance(before, input, line);
+    let source = advance(rt, before, input, line);
     respond(
+        rt,
         with_source(t, source),
         line,
         image,
@@ -120,6 +123,7 @@ fn turns_left(t: Talk, turns: u64) -> u64
 }
 
 fn converse(
+    rt: &HostRuntime,
     start: Talk,
     input: &mut [u8],
     line: &mut [u8],
@@ -136,7 +140,7 @@ fn converse(
     let mut turns = u64::MAX;
     while 0 < turns {
         t = take_more(
-            t, input, line, image, bytes, out, store, frames, bounds, pointers, vars,
+            rt, t, input, line, image, bytes, out, store, frames, bounds, pointers, vars,
         );
         turns = turns_left(t, turns);
     }
@@ -152,7 +156,7 @@ fn first(m: Registers) -> Talk {
     }
 }
 
-fn open(line: &mut [u8], image: &mut [u8], bytes: &mut [u8], out: &mut [u8]) {
+fn open(rt: &HostRuntime, line: &mut [u8], image: &mut [u8], bytes: &mut [u8], out: &mut [u8]) {
     let mut input = [0u8; ONE_READ];
     let mut store = [0u8; STORE_LENGTH];
     let mut frames = [0u64; FRAMES_LENGTH];
@@ -167,6 +171,7 @@ fn open(line: &mut [u8], image: &mut [u8], bytes: &mut [u8], out: &mut [u8]) {
         &mut vars,
     ) {
         Moved::Done(m) => converse(
+            rt,
             first(m),
             &mut input,
             line,
@@ -185,18 +190,19 @@ fn open(line: &mut [u8], image: &mut [u8], bytes: &mut [u8], out: &mut [u8]) {
 
 // The large arrays go by references that have their lengths in their types, so that the check never spells them out.
 fn open_with(
+    rt: &HostRuntime,
     line: &mut [u8; LINE_ROOM],
     image: &mut [u8; HEX_ROOM],
     bytes: &mut [u8; HEX_ROOM],
     out: &mut [u8; ANSWER_ROOM],
 ) {
-    open(line, image, bytes, out);
+    open(rt, line, image, bytes, out);
 }
 
-pub fn run() {
+pub fn run(rt: &HostRuntime) {
     let mut line = [0u8; LINE_ROOM];
     let mut image = [0u8; HEX_ROOM];
     let mut bytes = [0u8; HEX_ROOM];
     let mut out = [0u8; ANSWER_ROOM];
-    open_with(&mut line, &mut image, &mut bytes, &mut out);
+    open_with(rt, &mut line, &mut image, &mut bytes, &mut out);
 }

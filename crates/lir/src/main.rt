@@ -7,42 +7,70 @@ mod say;
 mod single;
 mod source;
 
+use file::PATH_ROOM;
+use std::env::FillError;
+use std::rt::Env;
+use telling::bound::within;
 use words::word::same;
 
-fn usage() {
+fn usage(rt: &HostRuntime) {
     say::text(
+        rt,
         b"usage: lir run IMAGE    run an image; the start line is the first line of standard input:\n",
     );
-    say::text(b"                        FUNCTION BUDGET KIND BITS [KIND BITS]...\n");
-    say::text(b"       lir check IMAGE  load an image, or say why it is refused\n");
+    say::text(rt, b"                        FUNCTION BUDGET KIND BITS [KIND BITS]...\n");
+    say::text(rt, b"       lir check IMAGE  load an image, or say why it is refused\n");
     say::text(
+        rt,
         b"       lir console      the host's calls by hand, a command a line from standard input\n",
     );
-    say::text(b"       lir help         this text\n");
+    say::text(rt, b"       lir help         this text\n");
 }
 
-fn command(word: &[u8], count: usize) {
+fn command(rt: &HostRuntime, word: &[u8], count: usize) {
     if count == 3 {
         if same(word, b"run") {
-            single::run();
+            single::run(rt);
             return;
         }
         if same(word, b"check") {
-            single::check();
+            single::check(rt);
             return;
         }
     }
     if count == 2 {
         if same(word, b"console") {
-            dialog::run();
+            dialog::run(rt);
             return;
         }
     }
-    usage();
+    usage(rt);
 }
 
-fn main() {
-    let mut word = io::buffer();
-    let n = os::arg(1, &mut word);
-    command(&word[..n], os::arg_count());
+// How many words the command line has, the program's name among them; four are too many already.
+fn arg_count(rt: &HostRuntime) -> usize {
+    let mut word = [0u8; PATH_ROOM];
+    let mut count = 0;
+    for i in 0..4usize {
+        if let Err(FillError::NotPresent) = rt.arg(i, &mut word) {
+            return count;
+        }
+        count = i + 1;
+    }
+    count
+}
+
+// The command word goes to the front of the buffer; one that is not there, or is too long, is no word.
+fn first_arg(rt: &HostRuntime, word: &mut [u8]) -> usize {
+    match rt.arg(1, word) {
+        Ok(n) => n,
+        Err(_) => 0,
+    }
+}
+
+fn main(rt: HostRuntime) {
+    let mut word = [0u8; PATH_ROOM];
+    let n = first_arg(&rt, &mut word);
+    let end = within(n, &word);
+    command(&rt, &word[..end], arg_count(&rt));
 }

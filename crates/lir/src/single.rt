@@ -10,7 +10,7 @@ use telling::bound::within;
 // A file over 32,768 bytes is read one byte further, so that the loader refuses it.
 const IMAGE_ROOM: usize = 32769;
 
-fn print_answer(image: &[u8], line: &[u8]) {
+fn print_answer(rt: &HostRuntime, image: &[u8], line: &[u8]) {
     let mut out = [0u8; 128];
     let mut store = [0u8; STORE_LENGTH];
     let mut frames = [0u64; FRAMES_LENGTH];
@@ -27,41 +27,41 @@ fn print_answer(image: &[u8], line: &[u8]) {
         &mut pointers,
         &mut vars,
     );
-    say::answer(&out, to);
+    say::answer(rt, &out, to);
 }
 
-fn run_image(image: &[u8], line: &mut [u8]) {
+fn run_image(rt: &HostRuntime, image: &[u8], line: &mut [u8]) {
     let mut input = [0u8; ONE_READ];
-    let s = read_first(&mut input, line);
+    let s = read_first(rt, &mut input, line);
     let h = s.held;
     if s.state != FAILED {
         let end = within(h.length, line);
-        print_answer(image, &line[..end]);
+        print_answer(rt, image, &line[..end]);
     }
 }
 
-fn print_loaded(image: &[u8]) {
+fn print_loaded(rt: &HostRuntime, image: &[u8]) {
     let mut out = [0u8; 128];
     let to = write_checked(&mut out, image);
-    say::answer(&out, to);
+    say::answer(rt, &out, to);
 }
 
-fn run_file(room: &mut [u8], line: &mut [u8]) {
-    match read_image(room) {
+fn run_file(rt: &HostRuntime, room: &mut [u8], line: &mut [u8]) {
+    match read_image(rt, room) {
         Got::Bytes(n) => {
             let end = within(n, room);
-            run_image(&room[..end], line);
+            run_image(rt, &room[..end], line);
         }
         Got::End => (),
         Got::Failed => (),
     }
 }
 
-fn check_file(room: &mut [u8]) {
-    match read_image(room) {
+fn check_file(rt: &HostRuntime, room: &mut [u8]) {
+    match read_image(rt, room) {
         Got::Bytes(n) => {
             let end = within(n, room);
-            print_loaded(&room[..end]);
+            print_loaded(rt, &room[..end]);
         }
         Got::End => (),
         Got::Failed => (),
@@ -69,21 +69,21 @@ fn check_file(room: &mut [u8]) {
 }
 
 // The arrays go by references that have their lengths in their types, so that the check never spells them out.
-fn run_with(room: &mut [u8; IMAGE_ROOM], line: &mut [u8; LINE_ROOM]) {
-    run_file(room, line);
+fn run_with(rt: &HostRuntime, room: &mut [u8; IMAGE_ROOM], line: &mut [u8; LINE_ROOM]) {
+    run_file(rt, room, line);
 }
 
-fn check_with(room: &mut [u8; IMAGE_ROOM]) {
-    check_file(room);
+fn check_with(rt: &HostRuntime, room: &mut [u8; IMAGE_ROOM]) {
+    check_file(rt, room);
 }
 
-pub fn run() {
+pub fn run(rt: &HostRuntime) {
     let mut room = [0u8; IMAGE_ROOM];
     let mut line = [0u8; LINE_ROOM];
-    run_with(&mut room, &mut line);
+    run_with(rt, &mut room, &mut line);
 }
 
-pub fn check() {
+pub fn check(rt: &HostRuntime) {
     let mut room = [0u8; IMAGE_ROOM];
-    check_with(&mut room);
+    check_with(rt, &mut room);
 }

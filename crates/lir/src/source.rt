@@ -59,13 +59,13 @@ fn finish(kept: usize) -> Source {
 }
 
 // Some more of the line: from the input that was read, or from what is read next.
-pub fn advance(s: Source, input: &mut [u8], line: &mut [u8]) -> Source {
+pub fn advance(rt: &HostRuntime, s: Source, input: &mut [u8], line: &mut [u8]) -> Source {
     let h = s.held;
     let end = within(s.end, input);
     if h.at < end {
         return take(h.length, &input[..end], h.at, line);
     }
-    match read_input(input) {
+    match read_input(rt, input) {
         Got::Bytes(n) => {
             let more = within(n, input);
             take(h.length, &input[..more], 0, line)
@@ -103,11 +103,11 @@ fn is_there(s: Source, line: &[u8]) -> bool {
 }
 
 // Reads the first line of the input.
-pub fn read_first(input: &mut [u8], line: &mut [u8]) -> Source {
+pub fn read_first(rt: &HostRuntime, input: &mut [u8], line: &mut [u8]) -> Source {
     let mut s = kept(0, MORE);
     let mut turns = u64::MAX;
     while 0 < turns {
-        s = advance(s, input, line);
+        s = advance(rt, s, input, line);
         if is_there(s, line) {
             return s;
         }
