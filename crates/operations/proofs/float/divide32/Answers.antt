@@ -1,7 +1,6 @@
 -- `divide32`: the machine's quotient is the one by whole numbers.
 use lib.Ieee.{binary32}
 use Rattle.value.proofs.Fields.{divide_is}
-use borrow.Author.Rules.{rules}
 use Rattle.operations.proofs.float.divide32.Goals as goal
 
 pub returns : goal.returns

@@ -1,7 +1,6 @@
 -- `divide64`: the machine's quotient is the one by whole numbers.
 use lib.Ieee.{binary64}
 use Rattle.value.proofs.Fields.{divide_is}
-use borrow.Author.Rules.{rules}
 use Rattle.operations.proofs.float.divide64.Goals as goal
 
 pub returns : goal.returns

@@ -8,7 +8,6 @@ use Rattle.value.specs.Ir.{value_of}
 use Rattle.value.specs.Value.{f32, f64, same, tag}
 use Rattle.value.proofs.Leftover.{rest, left_over_lem}
 use Rattle.operations.proofs.Divided.{no_float, unlike, no_floats, quotient32, quotient64}
-use borrow.Author.Rules.{rules}
 use borrow.Enum.Refused.{opened}
 use Rattle.operations.proofs.float.fdiv.Goals as goal
 

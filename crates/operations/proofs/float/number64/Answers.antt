@@ -1,7 +1,6 @@
 -- `number64`: a NaN's pattern gives 0 / 0, any other is the machine's own.
 use lib.Ieee.{binary64}
 use Rattle.value.proofs.Patterns.{no_pattern, not_t, nan-of}
-use borrow.Author.Rules.{rules}
 use Rattle.operations.proofs.float.number64.Goals as goal
 
 pub float_from_bits-result : goal.float_from_bits-result

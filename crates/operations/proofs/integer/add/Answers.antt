@@ -1,13 +1,11 @@
 -- `add`: the test of the kinds, then the sum of the two numbers in the kind.
 use mathlib.Core.Path.{ap, ◌∙◌}
 use lib.IntN.{◌+ℤ◌}
-use borrow.Author.Tests.{not-true, not-false}
 use Rattle.value.specs.Ir.{value_of, computed}
 use Rattle.operations.specs.Kernel.{worth}
 use Rattle.value.specs.Value.{integer, checked, operate}
 use Rattle.value.specs.Value as Believed
 use Rattle.operations.proofs.Arithmetic.{refuses, operates}
-use borrow.Author.Rules.{rules}
 use Rattle.operations.proofs.integer.add.Goals as goal
 
 pub returns-then-not-alike : goal.returns-then-not-alike

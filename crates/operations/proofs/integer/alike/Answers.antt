@@ -1,7 +1,6 @@
 -- `alike`: the tags 2 to 9 are the integers'.
 use Rattle.value.specs.Ir.{value_of}
-use Rattle.operations.proofs.Arithmetic.{not_same, too_low, by_top}
-use borrow.Author.Rules.{rules}
+use Rattle.operations.proofs.Arithmetic.{too_low, by_top}
 use Rattle.operations.proofs.integer.alike.Goals as goal
 
 pub returns-then-tag-lt-U8_TAG : goal.returns-then-tag-lt-U8_TAG

@@ -1,9 +1,7 @@
 -- `div_unsigned`: the test of the kinds, then 24, then the quotient of the bits.
-use borrow.Author.Tests.{not-true, not-false}
 use Rattle.value.specs.Ir.{value_of}
 use Rattle.value.specs.Value as Believed
 use Rattle.operations.proofs.Arithmetic.{refuses, div_by_zero, quotient}
-use borrow.Author.Rules.{rules}
 use Rattle.operations.proofs.integer.div_unsigned.Goals as goal
 
 pub returns-then-not-alike : goal.returns-then-not-alike

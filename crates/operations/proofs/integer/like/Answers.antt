@@ -4,8 +4,6 @@ use Rattle.value.specs.Ir.{value_of, computed}
 use Rattle.operations.specs.Kernel.{worth}
 use Rattle.value.specs.Value.{checked}
 use Rattle.operations.proofs.Arithmetic.{no_integer}
-use borrow.Author.Rules.{rules}
-use borrow.Enum.Refused.{opened}
 use Rattle.operations.proofs.integer.like.Goals as goal
 
 pub returns-in-U8 : goal.returns-in-U8
@@ -41,4 +39,4 @@ unfolding value_of
 returns-in-I64 c = c.to_i64.ensures ∙ sym (ap (λ v. computed (checked (value_of v).kind (worth c.args.w))) c.in-I64.is)
 
 pub returns-in_default : goal.returns-in_default
-returns-in_default c = no_integer c.args.x (worth c.args.w) (opened c.in_default.in_default-own.keys9)
+returns-in_default c = no_integer c.args.x (worth c.args.w) c.in_default.in_default-own.keys9

@@ -1,5 +1,5 @@
 -- `negate_i8`: the machine's negation at 8 bits, by the law over the width.
-use Rattle.operations.proofs.Widths.{i8-is, minus-least, minus-fits, minus_is}
+use Rattle.operations.proofs.Widths.{i8-is, minus-least, minus_is}
 use Rattle.operations.proofs.integer.negate_i8.Goals as goal
 
 pub returns-then-a-eqminus128 : goal.returns-then-a-eqminus128

@@ -1,9 +1,7 @@
 -- `rem_unsigned`: the test of the kinds, then 24, then the quotient's refusal, then the remainder of the bits.
-use borrow.Author.Tests.{not-true, not-false}
 use Rattle.value.specs.Ir.{value_of}
 use Rattle.value.specs.Value as Believed
 use Rattle.operations.proofs.Arithmetic.{refuses, rem_by_zero, remainder, no_quotient}
-use borrow.Author.Rules.{rules}
 use Rattle.operations.proofs.integer.rem_unsigned.Goals as goal
 
 pub returns-then-not-alike : goal.returns-then-not-alike

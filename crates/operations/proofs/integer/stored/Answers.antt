@@ -1,10 +1,8 @@
 -- `stored`: a number outside every width is outside the kind.
-use mathlib.Core.Path.{ap, ◌∙◌, subst}
-use Rattle.value.specs.Ir.{value_of, computed}
+use mathlib.Core.Path.{subst}
+use Rattle.value.specs.Ir.{value_of}
 use Rattle.operations.specs.Kernel.{Told}
-use Rattle.value.specs.Value.{checked}
 use Rattle.operations.proofs.Wholes.{to_none}
-use borrow.Author.Rules.{rules}
 use Rattle.operations.proofs.integer.stored.Goals as goal
 
 pub returns-in-Beyond : goal.returns-in-Beyond

@@ -1,14 +1,11 @@
 -- `sub`: the test of the kinds, then the sum with the opposite of the two numbers in the kind.
-use mathlib.Core.Path.{sym, ap, ◌∙◌, subst}
-use Prim.Native.Nat.{◌<◌, ◌^◌}
-use lib.IntN.{neg_ℤ, ◌+ℤ◌, nat_abs}
-use borrow.Author.Tests.{not-true, not-false}
+use mathlib.Core.Path.{ap, ◌∙◌}
+use lib.IntN.{neg_ℤ, ◌+ℤ◌}
 use Rattle.value.specs.Ir.{value_of, computed}
 use Rattle.operations.specs.Kernel.{worth}
 use Rattle.value.specs.Value.{integer, checked, operate}
 use Rattle.value.specs.Value as Believed
 use Rattle.operations.proofs.Arithmetic.{refuses, operates}
-use borrow.Author.Rules.{rules}
 use Rattle.operations.proofs.integer.sub.Goals as goal
 
 pub returns-then-not-alike : goal.returns-then-not-alike

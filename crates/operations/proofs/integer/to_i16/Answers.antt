@@ -1,8 +1,6 @@
 -- `to_i16`: which whole numbers 16 bits hold with a sign, by the law over the width.
-use mir.Syntax.{w16}
 use Rattle.operations.proofs.Widths.{i16-is}
-use Rattle.operations.proofs.Wholes.{to_up, to_high, to_down, to_low, down_fits}
-use borrow.Author.Rules.{rules}
+use Rattle.operations.proofs.Wholes.{to_up, to_high, to_down, to_low}
 use Rattle.operations.proofs.integer.to_i16.Goals as goal
 
 pub returns-then-n-lt32768 : goal.returns-then-n-lt32768

@@ -1,8 +1,6 @@
 -- `to_i32`: which whole numbers 32 bits hold with a sign, by the law over the width.
-use mir.Syntax.{w32}
 use Rattle.operations.proofs.Widths.{i32-is}
-use Rattle.operations.proofs.Wholes.{to_up, to_high, to_down, to_low, down_fits}
-use borrow.Author.Rules.{rules}
+use Rattle.operations.proofs.Wholes.{to_up, to_high, to_down, to_low}
 use Rattle.operations.proofs.integer.to_i32.Goals as goal
 
 pub returns-then-n-lt2147483648 : goal.returns-then-n-lt2147483648

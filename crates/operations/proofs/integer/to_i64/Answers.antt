@@ -1,8 +1,6 @@
 -- `to_i64`: which whole numbers 64 bits hold with a sign, by the law over the width.
-use mir.Syntax.{w64}
 use Rattle.operations.proofs.Widths.{i64-is}
-use Rattle.operations.proofs.Wholes.{to_up, to_high, to_down, to_low, down_fits}
-use borrow.Author.Rules.{rules}
+use Rattle.operations.proofs.Wholes.{to_up, to_high, to_down, to_low}
 use Rattle.operations.proofs.integer.to_i64.Goals as goal
 
 pub returns-then-n-lt9223372036854775808 : goal.returns-then-n-lt9223372036854775808

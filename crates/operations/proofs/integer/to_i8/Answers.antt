@@ -1,8 +1,6 @@
 -- `to_i8`: which whole numbers 8 bits hold with a sign, by the law over the width.
-use mir.Syntax.{w8}
 use Rattle.operations.proofs.Widths.{i8-is}
-use Rattle.operations.proofs.Wholes.{to_up, to_high, to_down, to_low, down_fits}
-use borrow.Author.Rules.{rules}
+use Rattle.operations.proofs.Wholes.{to_up, to_high, to_down, to_low}
 use Rattle.operations.proofs.integer.to_i8.Goals as goal
 
 pub returns-then-n-lt128 : goal.returns-then-n-lt128

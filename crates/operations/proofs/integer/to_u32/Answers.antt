@@ -1,7 +1,6 @@
 -- `to_u32`: which whole numbers 32 bits hold without a sign, by the law over the width.
 use Rattle.operations.proofs.Widths.{u32-is}
 use Rattle.operations.proofs.Wholes.{to-count, to_over, to_below}
-use borrow.Author.Rules.{rules}
 use Rattle.operations.proofs.integer.to_u32.Goals as goal
 
 pub returns-then-n-lt4294967296 : goal.returns-then-n-lt4294967296
