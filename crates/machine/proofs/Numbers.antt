@@ -18,7 +18,7 @@ use Rattle.image.specs.Program.{Program, Operand, variable, literal, Slot, funct
 use Rattle.memory.specs.Memory as Memory
 use Rattle.memory.specs.Live.{Live}
 use Rattle.memory.specs.Memory.{Memory, Back, Frame, Pointer, constant, local, pointer_at, live_count, live_bytes, allocate, constant_address, offset_at, offset_by, read_constant, read_at, read_bytes, write_at, write_bytes, push_frame}
-use Rattle.machine.specs.Machine.{Machine, Vars, Stepped, went, ended, value_of, as_pointer, pointer_of, set_from, set_arguments, as_variable, value_if, set_returned, make_slots, sets₁, sets₂, leave, execute, step, Ran, stopped, after, run_from, run, step_once, host_allocate, host_write, host_read, start, host_list}
+use Rattle.machine.specs.Machine.{Machine, Vars, Stepped, went, ended, set_to, value_of, as_pointer, pointer_of, set_from, set_arguments, as_variable, value_if, set_returned, make_slots, sets₁, sets₂, leave, execute, step, Ran, stopped, after, run_from, run, step_once, host_allocate, host_write, host_read, start, host_list}
 use Rattle.machine.specs.Believed.{believed}
 use Rattle.machine.specs.Entries.{enter}
 use Rattle.machine.specs.Asks.{Ask, to_allocate, to_write, to_read, to_start, to_step, to_run, to_list, Reply, ran, refusal, turn, changes, shows, steps, goes, lays, ask}
@@ -169,7 +169,7 @@ module _ (ns : List ℕ) where
     unfolding set_arguments
     arguments_only vs [] os = answered
     arguments_only vs (x ∷ xs) [] = answered
-    arguments_only vs (x ∷ xs) (o ∷ os) = only_after ns (value_only t vs o) (λ v. arguments_only _ xs os)
+    arguments_only vs (x ∷ xs) (o ∷ os) = only_after ns (value_only t vs o) (λ v. arguments_only (set_to vs x v) xs os)
 
     value_if_only : (vs : Vars) (o : Option Operand) → Only ns (value_if vs o)
     unfolding value_if
