@@ -1,11 +1,6 @@
 -- `hex::all_hex` meets its contract: the digits that are left answer for the whole word.
-use Prim.Native.Nat.{◌≤◌, ◌-◌}
 use native.Mathlib.Omega.{arith}
-use borrow.Author.Tests.{not-true, not-false}
-use borrow.Author.Rules.{rules}
-use mathlib.Core.Path.{◌≡◌, refl, sym, ◌∙◌}
-use lib.ListN.{length, drop}
-use Rattle.words.specs.Hex.{all_hex}
+use mathlib.Core.Path.{sym, ◌∙◌}
 use Rattle.words.proofs.HexDigits.{other_digit, hex_digit, all_seen}
 use Rattle.words.proofs.hex.all_hex.Goals as goal
 

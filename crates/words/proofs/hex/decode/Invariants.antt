@@ -1,12 +1,9 @@
 -- `hex::decode` meets its contract: the pairs that are left, stored after those that are, are all of them.
 use Prim.Native.Nat.{◌≤◌, ◌-◌, ◌*◌, ◌/◌}
-use native.Mathlib.Omega.{arith}
-use borrow.Author.Rules.{rules}
-use mathlib.Core.Path.{◌≡◌, refl}
-use lib.ListN.{length, drop, length-set}
+use mathlib.Core.Path.{◌≡◌}
+use lib.ListN.{length, drop}
 use lib.Seq.{sets}
 use Rattle.words.specs.Hex.{bytes_said}
-use Rattle.words.proofs.HexDigits.{decode_more, decode_done}
 use Rattle.words.proofs.hex.decode.Given as goal
 
 abbrev pub invariant-loop-i : goal.invariant-loop-i

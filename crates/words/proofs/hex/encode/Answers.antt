@@ -1,10 +1,6 @@
 -- `hex::encode` meets its contract: the digits of the bytes that are left, stored after those that are, are all of them.
-use Prim.Native.Nat.{◌≤◌, ◌+◌, ◌-◌, ◌*◌}
 use native.Mathlib.Omega.{arith}
-use mathlib.Core.Path.{◌≡◌, refl}
-use lib.ListN.{length, drop, length-set}
-use lib.Seq.{sets}
-use Rattle.words.specs.Hex.{pairs_of}
+use lib.ListN.{length-set}
 use Rattle.words.proofs.HexDigits.{encode_more, encode_done}
 use Rattle.words.proofs.hex.encode.Goals as goal
 

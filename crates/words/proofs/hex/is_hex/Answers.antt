@@ -1,7 +1,6 @@
 -- `hex::is_hex` meets its contract, by the tests of the length.
 use mathlib.Core.Path.{◌∙◌}
 use Rattle.words.proofs.HexDigits.{dash_alone, no_digit, odd_digits, even-digits}
-use borrow.Author.Rules.{rules}
 use Rattle.words.proofs.hex.is_hex.Goals as goal
 
 pub returns-then-word-eq1 : goal.returns-then-word-eq1

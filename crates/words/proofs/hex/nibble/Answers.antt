@@ -2,7 +2,6 @@
 use native.Mathlib.Omega.{arith}
 use Rattle.words.specs.Hex.{nibble}
 use Rattle.words.proofs.HexDigits.{in_range, below, above}
-use borrow.Author.Rules.{rules}
 use Rattle.words.proofs.hex.nibble.Goals as goal
 
 pub returns-in-48-to-57 : goal.returns-in-48-to-57

@@ -1,8 +1,6 @@
 -- `hex::read_hex` meets its contract, by its two tests.
 use mathlib.Core.Path.{◌∙◌, sym}
-use borrow.Author.Tests.{not-true, not-false}
 use Rattle.words.proofs.HexDigits.{not-hex, too_long, unpaired}
-use borrow.Author.Rules.{rules}
 use Rattle.words.proofs.hex.read_hex.Goals as goal
 
 pub returns-then-not-is_hex : goal.returns-then-not-is_hex

@@ -2,13 +2,11 @@
 use Prim.Native.Nat.{ℕ, ◌*◌}
 use mathlib.Core.Path.{◌∙◌, sym, ap}
 use mathlib.Core.List.{List}
-use native.Mathlib.Omega.{arith}
 use lib.ListN.{length}
 use Rattle.words.specs.Text.{text, put}
 use Rattle.words.specs.Hex.{hex_of, pairs_of}
-use Rattle.words.proofs.Pieces.{placed_at, written, unwritten}
+use Rattle.words.proofs.Pieces.{written, unwritten}
 use Rattle.words.proofs.HexDigits.{no_bytes, some_bytes, length-hex}
-use borrow.Author.Rules.{rules}
 use Rattle.words.proofs.hex.write_hex.Goals as goal
 
 pub returns-then-bytes-eq0 : goal.returns-then-bytes-eq0

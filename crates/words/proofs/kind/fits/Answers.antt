@@ -1,6 +1,5 @@
 -- `kind::fits` meets its contract: the largest bits of each kind are one below its limit.
 use Rattle.words.proofs.Names.{most, no_kind, no_such_kind, bits_fit}
-use borrow.Author.Rules.{rules}
 use Rattle.words.proofs.kind.fits.Goals as goal
 
 pub returns-then-tag-eq0 : goal.returns-then-tag-eq0

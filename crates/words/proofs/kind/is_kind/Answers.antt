@@ -3,7 +3,6 @@ use mathlib.Core.Path.{◌∙◌, ap}
 use native.Mathlib.Omega.{arith}
 use lib.ListN.{length}
 use Rattle.words.proofs.Names.{rows-count, row_small, name_short, name_there}
-use borrow.Author.Rules.{rules}
 use Rattle.value.specs.Bytes.{same_bytes}
 use Rattle.words.proofs.kind.is_kind.Goals as goal
 

@@ -1,11 +1,8 @@
 -- `kind::read_kind` meets its contract: the names that are left answer for all.
 use Prim.Native.Nat.{◌≤◌, ◌-◌}
-use native.Mathlib.Omega.{arith}
-use borrow.Author.Rules.{rules}
-use mathlib.Core.Path.{◌≡◌, refl, sym, ◌∙◌}
+use mathlib.Core.Path.{◌≡◌}
 use lib.ListN.{drop}
 use Rattle.words.specs.Kinds.{names, kind_from, kind_read}
-use Rattle.words.proofs.Names.{named, not_named, none_named}
 use Rattle.words.proofs.kind.read_kind.Given as goal
 
 abbrev pub invariant-loop-tag : goal.invariant-loop-tag

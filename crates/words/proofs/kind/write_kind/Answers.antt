@@ -6,7 +6,6 @@ use native.Mathlib.Omega.{arith}
 use lib.ListN.{length}
 use Rattle.words.specs.Text.{text, put}
 use Rattle.words.proofs.Names.{rows-count, row_small, name_short, name_there}
-use borrow.Author.Rules.{rules}
 use Rattle.words.proofs.kind.write_kind.Goals as goal
 
 pub overflow_mul-head : goal.overflow_mul-head

@@ -1,9 +1,9 @@
 -- `number::count_digits` meets its contract: the digits counted and those that are left are all of them.
-use Prim.Native.Nat.{◌+◌, ◌-◌}
+use Prim.Native.Nat.{◌-◌}
 use native.Mathlib.Omega.{arith}
-use mathlib.Core.Path.{◌≡◌, refl}
-use Rattle.words.specs.Number.{places_within, places}
-use Rattle.words.proofs.Digits.{last-place, Held, Next, next_place}
+use mathlib.Core.Path.{refl}
+use Rattle.words.specs.Number.{places}
+use Rattle.words.proofs.Digits.{last-place, Next, next_place}
 use Rattle.words.proofs.number.count_digits.Goals as goal
 
 next : (c : goal.In-loop-left) → Next c.loop-left.count c.loop-left.left

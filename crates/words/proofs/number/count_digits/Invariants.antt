@@ -1,9 +1,8 @@
 -- `number::count_digits` meets its contract: the digits counted and those that are left are all of them.
 use Prim.Native.Nat.{◌+◌, ◌-◌}
-use native.Mathlib.Omega.{arith}
-use mathlib.Core.Path.{◌≡◌, refl}
+use mathlib.Core.Path.{◌≡◌}
 use Rattle.words.specs.Number.{places_within, places}
-use Rattle.words.proofs.Digits.{last-place, Held, Next, next_place}
+use Rattle.words.proofs.Digits.{Held}
 use Rattle.words.proofs.number.count_digits.Given as goal
 
 abbrev pub invariant-loop-left : goal.invariant-loop-left

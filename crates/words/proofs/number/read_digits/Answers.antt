@@ -1,10 +1,5 @@
 -- `number::read_digits` meets its contract: what is left to read says, after what was read, what the whole word says.
-use Prim.Native.Nat.{◌≤◌, ◌<◌, ◌-◌, ◌^◌}
 use native.Mathlib.Omega.{arith}
-use borrow.Author.Rules.{rules}
-use mathlib.Core.Path.{◌≡◌, refl}
-use lib.ListN.{length, drop}
-use Rattle.words.specs.Number.{digits_say}
 use Rattle.words.proofs.Digits.{low-at, high_at, over_at, more-at, all_said}
 use Rattle.words.proofs.number.read_digits.Goals as goal
 

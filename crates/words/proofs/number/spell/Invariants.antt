@@ -1,11 +1,9 @@
 -- `number::spell` meets its contract: the digits that are left, stored before those that are, are all of them.
 use Prim.Native.Nat.{◌≤◌}
-use native.Mathlib.Omega.{arith}
-use mathlib.Core.Path.{◌≡◌, refl}
-use lib.ListN.{length, length-set}
+use mathlib.Core.Path.{◌≡◌}
+use lib.ListN.{length}
 use lib.Seq.{sets}
 use Rattle.words.specs.Number.{digits}
-use Rattle.words.proofs.Digits.{spell_more, spell_done}
 use Rattle.words.proofs.number.spell.Given as goal
 
 abbrev pub invariant-loop-i : goal.invariant-loop-i

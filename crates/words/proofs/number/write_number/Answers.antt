@@ -1,12 +1,9 @@
 -- `number::write_number` meets its contract: the digits are stored where `place` gives them room.
 use mathlib.Core.Path.{◌∙◌, sym, ap}
-use native.Mathlib.Omega.{arith}
 use Prim.Native.Nat.{ℕ}
-use lib.ListN.{length}
 use Rattle.words.specs.Number.{decimal, digits}
-use Rattle.words.proofs.Pieces.{placed_at, written, unwritten}
+use Rattle.words.proofs.Pieces.{written, unwritten}
 use Rattle.words.proofs.Digits.{length-decimal}
-use borrow.Author.Rules.{rules}
 use Rattle.words.proofs.number.write_number.Goals as goal
 
 pub returns-in-To : goal.returns-in-To

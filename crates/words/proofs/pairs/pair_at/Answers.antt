@@ -6,7 +6,6 @@ use mathlib.Core.List.{[]}
 use lib.ListN.{get_or}
 use Rattle.words.specs.Words.{words}
 use Rattle.words.proofs.Reading.{pair_value, pair_no_bits, pair_no_kind, kind_there, words-bound}
-use borrow.Author.Rules.{rules}
 use Rattle.words.proofs.pairs.pair_at.Goals as goal
 
 pub overflow_add-k : goal.overflow_add-k

@@ -1,13 +1,11 @@
 -- `pairs::read_values` meets its contract: what is still to be read, stored after what is, is what the whole line says.
-use Prim.Native.Nat.{◌≤◌, ◌+◌, ◌-◌, min}
+use Prim.Native.Nat.{◌+◌}
 use native.Mathlib.Omega.{arith}
-use borrow.Author.Rules.{rules}
-use mathlib.Core.Path.{◌≡◌, refl, sym, ◌∙◌}
+use mathlib.Core.Path.{sym, ◌∙◌}
 use mathlib.Core.List.{[]}
-use lib.ListN.{length, get_or, drop, length-set}
+use lib.ListN.{get_or, length-set}
 use Rattle.words.specs.Words.{words}
-use Rattle.words.specs.Pairs.{values_from}
-use Rattle.words.proofs.Reading.{Owed, owed_all, kind-bad, bits-bad, all_read, more_left, no_room, pair_there, value_no_bad, bits_no_bad, words-bound}
+use Rattle.words.proofs.Reading.{kind-bad, bits-bad, all_read, more_left, no_room, pair_there, value_no_bad, bits_no_bad, words-bound}
 use Rattle.words.proofs.pairs.read_values.Goals as goal
 
 pub returns-in-BadKind : goal.returns-in-BadKind

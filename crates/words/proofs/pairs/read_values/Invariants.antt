@@ -1,13 +1,10 @@
 -- `pairs::read_values` meets its contract: what is still to be read, stored after what is, is what the whole line says.
-use Prim.Native.Nat.{◌≤◌, ◌+◌, ◌-◌, min}
-use native.Mathlib.Omega.{arith}
-use borrow.Author.Rules.{rules}
-use mathlib.Core.Path.{◌≡◌, refl, sym, ◌∙◌}
-use mathlib.Core.List.{[]}
-use lib.ListN.{length, get_or, drop, length-set}
+use Prim.Native.Nat.{◌≤◌, ◌-◌, min}
+use mathlib.Core.Path.{◌≡◌}
+use lib.ListN.{length, drop}
 use Rattle.words.specs.Words.{words}
 use Rattle.words.specs.Pairs.{values_from}
-use Rattle.words.proofs.Reading.{Owed, owed_all, kind-bad, bits-bad, all_read, more_left, no_room, pair_there, value_no_bad, bits_no_bad, words-bound}
+use Rattle.words.proofs.Reading.{Owed}
 use Rattle.words.proofs.pairs.read_values.Given as goal
 
 abbrev pub invariant-loop-i : goal.invariant-loop-i

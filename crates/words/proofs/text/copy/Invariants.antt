@@ -1,11 +1,8 @@
 -- `text::copy` meets its contract: what is left to copy gives what the whole copy gives.
 use Prim.Native.Nat.{◌≤◌, ◌+◌, ◌-◌}
-use native.Mathlib.Nat.{add-zero}
-use native.Mathlib.Omega.{arith}
-use mathlib.Core.Path.{◌≡◌, refl}
-use lib.ListN.{length, drop, length-set}
+use mathlib.Core.Path.{◌≡◌}
+use lib.ListN.{length, drop}
 use lib.Seq.{sets}
-use Rattle.value.proofs.Stores.{copy_more, copy_done}
 use Rattle.words.proofs.text.copy.Given as goal
 
 abbrev pub invariant-loop-i : goal.invariant-loop-i

@@ -1,9 +1,7 @@
 -- `text::write_bytes_lem` meets its contract: the bytes are stored where `place` gives them room.
 use mathlib.Core.Path.{◌∙◌, sym, refl}
-use native.Mathlib.Omega.{arith}
 use lib.ListN.{length}
-use Rattle.words.proofs.Pieces.{placed_at, written, unwritten}
-use borrow.Author.Rules.{rules}
+use Rattle.words.proofs.Pieces.{written, unwritten}
 use Rattle.words.proofs.text.write_bytes.Goals as goal
 
 pub returns-in-To : goal.returns-in-To

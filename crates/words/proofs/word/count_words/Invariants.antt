@@ -1,11 +1,8 @@
 -- `word::count_words` meets its contract: the words counted and those that are left are all of them.
 use Prim.Native.Nat.{◌≤◌, ◌+◌, ◌-◌}
-use native.Mathlib.Omega.{arith}
-use mathlib.Core.Path.{◌≡◌, refl}
-use mathlib.Core.Logic.{⊎_elim}
+use mathlib.Core.Path.{◌≡◌}
 use lib.ListN.{length, drop}
 use Rattle.words.specs.Words.{words}
-use Rattle.words.proofs.Parting.{at_space, at_other, at-end}
 use Rattle.words.proofs.word.count_words.Given as goal
 
 abbrev pub invariant-loop-i : goal.invariant-loop-i

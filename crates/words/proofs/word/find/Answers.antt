@@ -1,9 +1,5 @@
 -- `word::find` meets its contract: what is left to search answers for the whole.
-use Prim.Native.Nat.{◌+◌, ◌-◌}
 use native.Mathlib.Omega.{arith}
-use mathlib.Core.Path.{◌≡◌, refl}
-use lib.ListN.{length, drop}
-use Rattle.words.specs.Words.{until}
 use Rattle.words.proofs.Parting.{found_here, found_later, not_found}
 use Rattle.words.proofs.word.find.Goals as goal
 

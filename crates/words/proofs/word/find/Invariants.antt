@@ -1,10 +1,8 @@
 -- `word::find` meets its contract: what is left to search answers for the whole.
 use Prim.Native.Nat.{◌+◌, ◌-◌}
-use native.Mathlib.Omega.{arith}
-use mathlib.Core.Path.{◌≡◌, refl}
+use mathlib.Core.Path.{◌≡◌}
 use lib.ListN.{length, drop}
 use Rattle.words.specs.Words.{until}
-use Rattle.words.proofs.Parting.{found_here, found_later, not_found}
 use Rattle.words.proofs.word.find.Given as goal
 
 abbrev pub invariant-loop-i : goal.invariant-loop-i

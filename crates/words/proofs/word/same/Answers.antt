@@ -1,10 +1,6 @@
 -- `word::same` meets its contract: the bytes that are left answer for the whole.
-use Prim.Native.Nat.{◌≤◌, ◌-◌}
 use native.Mathlib.Omega.{arith}
-use mathlib.Core.Path.{◌≡◌, refl}
-use lib.ListN.{length, drop}
 use Rattle.words.proofs.Parting.{other_length, other_byte, same_byte, all_same}
-use Rattle.value.specs.Bytes.{same_bytes}
 use Rattle.words.proofs.word.same.Goals as goal
 
 pub returns-then-a-b : goal.returns-then-a-b

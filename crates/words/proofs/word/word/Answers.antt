@@ -1,10 +1,7 @@
 -- `word::word` meets its contract: the word is found from any place before it as from the start.
-use Prim.Native.Nat.{◌≤◌}
 use native.Mathlib.Omega.{arith}
-use borrow.Author.Rules.{rules}
-use mathlib.Core.Path.{◌≡◌, refl}
-use lib.ListN.{length, drop}
-use Rattle.words.specs.Words.{words, span_from, word_at}
+use mathlib.Core.Path.{refl}
+use Rattle.words.specs.Words.{word_at}
 use Rattle.words.proofs.Parting.{here-is, next-is, none_is, told}
 use Rattle.words.proofs.word.word.Goals as goal
 
@@ -17,7 +14,7 @@ returns-then-line-end c =
     let a = c.args in
     let l = c.loop-left in
     let f = c.find-end in
- let r = told a.line.now a.k (none_is a.line.now l.at f.result l.invariant.1 f.ensures l.left c.loop-left-test.true c.if-line-end.true l.invariant.0) in record { value = r.0; stands = r.1 }
+    let r = told a.line.now a.k (none_is a.line.now l.at f.result l.invariant.1 f.ensures l.left c.loop-left-test.true c.if-line-end.true l.invariant.0) in record { value = r.0; stands = r.1 }
 
 pub loop-left-preserved : goal.loop-left-preserved
 loop-left-preserved c =
@@ -31,4 +28,4 @@ returns c =
     let a = c.args in
     let l = c.loop-left in
     let f = c.find in
- let r = told a.line.now a.k (here-is a.line.now l.at f.result l.invariant.1 f.ensures l.left c.loop-left-test.false l.invariant.0) in record { value = r.0; stands = r.1 }
+    let r = told a.line.now a.k (here-is a.line.now l.at f.result l.invariant.1 f.ensures l.left c.loop-left-test.false l.invariant.0) in record { value = r.0; stands = r.1 }

@@ -1,11 +1,8 @@
 -- `word::word` meets its contract: the word is found from any place before it as from the start.
 use Prim.Native.Nat.{◌≤◌}
-use native.Mathlib.Omega.{arith}
-use borrow.Author.Rules.{rules}
-use mathlib.Core.Path.{◌≡◌, refl}
+use mathlib.Core.Path.{◌≡◌}
 use lib.ListN.{length, drop}
 use Rattle.words.specs.Words.{words, span_from, word_at}
-use Rattle.words.proofs.Parting.{here-is, next-is, none_is, told}
 use Rattle.words.proofs.word.word.Given as goal
 
 abbrev pub invariant-loop-left : goal.invariant-loop-left
