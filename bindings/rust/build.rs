@@ -1,4 +1,4 @@
-//! Links libembed.a from the folder LIR_LIBRARY, or from target/staticlib of the repository, where `rt staticlib embed` writes it.
+//! Links libembed.a from the folder LIR_LIBRARY, or from target/staticlib of the repository, where `bindings/library` writes it.
 
 fn main() {
     let folder = std::env::var("LIR_LIBRARY").unwrap_or_else(|_| {

@@ -14,8 +14,7 @@ use replies::words::{
 use value::refusal::NOT_SOUND;
 
 // Fresh memory in the tables.
-#[unsafe(no_mangle)]
-pub extern "C" fn lir_fresh(
+pub fn lir_fresh(
     registers: &mut [u64],
     answer: &mut [u64],
     store: &mut [u8],
@@ -38,8 +37,7 @@ pub extern "C" fn lir_fresh(
 }
 
 // The function with this number begins, with a context and arguments as tags and bits.
-#[unsafe(no_mangle)]
-pub extern "C" fn lir_start(
+pub fn lir_start(
     image: &[u8],
     function: u64,
     context_tag: u64,
@@ -74,8 +72,7 @@ pub extern "C" fn lir_start(
 }
 
 // One step.
-#[unsafe(no_mangle)]
-pub extern "C" fn lir_step(
+pub fn lir_step(
     image: &[u8],
     registers: &mut [u64],
     answer: &mut [u64],
@@ -99,8 +96,7 @@ pub extern "C" fn lir_step(
 }
 
 // Steps until the budget is spent, the run returns, or an instruction is refused.
-#[unsafe(no_mangle)]
-pub extern "C" fn lir_run(
+pub fn lir_run(
     image: &[u8],
     budget: u32,
     registers: &mut [u64],

@@ -14,8 +14,7 @@ use replies::words::{
 use value::refusal::NOT_SOUND;
 
 // A new allocation in the top frame; its pointer's number is the answer's count.
-#[unsafe(no_mangle)]
-pub extern "C" fn lir_allocate(
+pub fn lir_allocate(
     size: usize,
     registers: &mut [u64],
     answer: &mut [u64],
@@ -39,8 +38,7 @@ pub extern "C" fn lir_allocate(
 }
 
 // Bytes written through a pointer.
-#[unsafe(no_mangle)]
-pub extern "C" fn lir_write(
+pub fn lir_write(
     pointer: usize,
     bytes: &[u8],
     registers: &[u64],
@@ -62,8 +60,7 @@ pub extern "C" fn lir_write(
 }
 
 // As many bytes as the buffer holds, read through a pointer.
-#[unsafe(no_mangle)]
-pub extern "C" fn lir_read(
+pub fn lir_read(
     image: &[u8],
     pointer: usize,
     bytes: &mut [u8],
@@ -90,8 +87,7 @@ pub extern "C" fn lir_read(
 }
 
 // The live list, in four slices.
-#[unsafe(no_mangle)]
-pub extern "C" fn lir_list(
+pub fn lir_list(
     registers: &[u64],
     store: &[u8],
     frames: &[u64],
@@ -115,8 +111,7 @@ pub extern "C" fn lir_list(
 }
 
 // An image through its program back to bytes; how many is the answer's count.
-#[unsafe(no_mangle)]
-pub extern "C" fn lir_write_image(image: &[u8], out: &mut [u8], answer: &mut [u64]) -> u64
+pub fn lir_write_image(image: &[u8], out: &mut [u8], answer: &mut [u64]) -> u64
     ensures { filled result answer.new out.new ≡ image_called image.now out.old answer.old }
 {
     if answer.len() != ANSWER {

@@ -1,4 +1,4 @@
-// The entries as C functions on slices and numbers, for a host in Rust or C. A slice is a pointer and a count; every length is tested, those of the tables by the entries.
+// The entries on slices and numbers, as `embed_c` exports them to a host in Rust or C. A slice is a pointer and a count; every length is tested, those of the tables by the entries.
 //
 // registers  5 words: running, next, counter, depth, pointers
 // answer     4 words: ended, tag, bits, count. Ended is 1 after the last Return, tag and bits are then its value, 0 for none.
