@@ -46,7 +46,7 @@ fn switch_after(image: &[u8], c: Step, n: Counts) -> Step
 
 // Assign, Read: to, operand, type.
 fn typed_after(image: &[u8], c: Step, n: Counts) -> Step
-    ensures { result ≡ walk (type image.now) (walk (operand image.now (counts_of n)) (walk (var image.now (counts_of n)) c)) }
+    ensures { result ≡ walk (type (image.now)) (walk (operand image.now (counts_of n)) (walk (var image.now (counts_of n)) c)) }
 {
     let to = variable_after(image, c, n);
     tag_after(image, operand_after(image, to, n))

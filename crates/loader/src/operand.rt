@@ -50,7 +50,7 @@ pub fn size_after(image: &[u8], c: Step) -> Step
 }
 
 pub fn tag_after(image: &[u8], c: Step) -> Step
-    ensures { result ≡ walk (type image.now) c }
+    ensures { result ≡ walk (type (image.now)) c }
 {
     past(type_after(image, c))
 }

@@ -1,0 +1,12 @@
+-- `functions_after` meets its contract: after i turns, what is left to read gives what the whole gives.
+use Prim.Native.Nat.{◌≤◌, ◌-◌}
+use Rattle.image.specs.Image.{function}
+use Rattle.loader.specs.Counts.{counts_of}
+use Rattle.loader.proofs.Turn.{Turn}
+use Rattle.loader.proofs.load.functions_after.Given as goal
+
+abbrev pub invariant-loop-i : goal.invariant-loop-i
+invariant-loop-i l = Turn (λ x. 0) (λ left. function l.image (counts_of l.n)) l.initial.c 0 l.n.functions 0 l.initial.table l.c 0 (l.n.functions - l.i) l.i l.table × (l.i ≤ l.n.functions)
+
+abbrev pub decreases-loop-i : goal.decreases-loop-i
+decreases-loop-i l = l.n.functions - l.i
