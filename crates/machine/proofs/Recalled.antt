@@ -12,7 +12,7 @@ use Rattle.value.specs.Answer.{Answer, ok, need, pick}
 use Rattle.memory.specs.Memory.{Memory, Back, Frame, Pointer, constant, local, top, sum, frame_at, pointer_at, stands, written, popped, allocate, live_count, live_bytes, write_at, write_bytes, offset_at, offset_by, constant_address, push_frame, pop_frame, live_pointer, live_list, no_back}
 use Rattle.memory.specs.Live.{listed}
 use mir.Facts.{and_yes, yes_and}
-use Rattle.machine.specs.History.{History, Made, made_in, target_of, top_frame, among, next, offset, address, less_top, moved, told_count, told_bytes, tell_allocation, tell_address, tell_store_at, tell_store, tell_offset_at, tell_offset, tell_call, tell_return, told_pointer, told_list}
+use Rattle.machine.specs.History.{History, Made, made_in, target_of, top_frame, among, next, less_top, moved, told_count, told_bytes, tell_allocation, tell_address, tell_store_at, tell_store, tell_offset_at, tell_offset, tell_call, tell_return, told_pointer, told_list}
 use Rattle.machine.specs.Alike.{Alike, both_ok, both-refused, BackAlike, both_root, both-back, Likened}
 use Rattle.machine.specs.Believed.{believed}
 use Rattle.machine.specs.Recalled.{recalled}

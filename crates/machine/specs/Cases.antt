@@ -5,11 +5,10 @@ use Rattle.std.proofs.Math.Option.{Option, none, some}
 use Rattle.value.specs.Answer.{Answer, ok, refused, ◌>>=◌}
 use Rattle.value.specs.Cases as Numbered
 use Rattle.value.specs.Refusal.{never_set, wrong_kinds, outside_width, frame_gone, beyond_length, misaligned, not_bool, no_return_place, bytes_exceed_size, no_instruction}
-use Rattle.value.specs.Value.{Value, value, Eq, ULt, FLt, FGt, IrType, bool, u8, u32, u64, i8, f32, f64, pointer, tag, size}
+use Rattle.value.specs.Value.{Value, value, Eq, ULt, FLt, FGt, IrType, bool, u8, u32, u64, i8, f32, f64, pointer, tag}
 use Rattle.image.specs.Program.{Program, Operand, variable, literal, Slot, Item, Function, Instruction, Jump, Switch, Assign, ConstantAddress, Call, Return, IntCmp', FloatCmp', Add, Sub, Mul, Div, Mod, FDiv, Not, Negate, Offset, Initialize, Write, Read, Copy, Drop}
 use Rattle.image.specs.Image.{loaded}
 use Rattle.image.specs.Cases.{p1_image, program_taken}
-use Rattle.memory.specs.Memory.{fresh}
 use Rattle.machine.specs.Machine as M
 use Rattle.machine.specs.Machine.{Memories, Outcome, returned, paused, stopped, Ran}
 
