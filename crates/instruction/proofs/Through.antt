@@ -2,14 +2,14 @@
 use Prim.Native.Nat.{ℕ, ◌+◌, ◌-◌, ◌<◌, ◌≤◌}
 use native.Mathlib.Nat.{sub-zero}
 use native.Mathlib.Omega.{arith}
-use mathlib.Core.Path.{◌≡◌, refl, sym, ap, ◌∙◌, subst}
+use mathlib.Core.Path.{◌≡◌, refl, sym, ap, ◌∙◌}
 use mathlib.Core.List.{List, [], ◌∷◌, ◌++◌, append-nil}
 use mathlib.Core.Option.{Option, none, some}
 use lib.ListN.{length, take, drop, replicate, length-replicate, length-append}
 use lib.Seq.{take_at, length-take-le}
 use borrow.Author.Tests.{eq-eqb, ne_eqb, le-leb, lt-ltb, le-ltb}
 use Rattle.value.specs.Refusal.{not_sound, no_instruction, bytes_exceed_size}
-use Rattle.value.specs.Answer.{Answer, ok, refused, need}
+use Rattle.value.specs.Answer.{Answer, ok, refused}
 use Rattle.value.specs.Value.{Value, u64, i64, f64, pointer, IrType, Boolean, U8, U16, U32, U64, I8, I16, I32, I64, F32, F64, Pointer, kind_of, tag, size, bytes_of, from_bytes}
 use Rattle.value.specs.Tags.{kind_at, named, type_at, holds}
 use Rattle.value.specs.Ir.{value_of, ir_of, type_of, ir_type, made, tagged, written, answered, loaded}
@@ -39,7 +39,7 @@ use Rattle.memory.specs.declared.Outcome.TheVariants as outcome
 use Rattle.memory.proofs.Laws.{read_fits, constant-fits}
 use Rattle.memory.proofs.Tab.{part_length}
 use Rattle.instruction.specs.Decode.{field_at, operand_at}
-use Rattle.instruction.specs.Compute.{answer_of, found_of}
+use Rattle.instruction.specs.Compute.{found_of}
 use Rattle.instruction.specs.Variables.{found, evaluated}
 use Rattle.instruction.specs.Code.{stepped, finished_of}
 use Rattle.instruction.specs.Short.{Word}
