@@ -1,7 +1,6 @@
 -- `fits`: by the tag, the bits are tested against their kind's.
 use mathlib.Core.Path.{sym, ap, ◌∙◌}
 use mathlib.Core.Logic.{⊎_elim, inl, inr}
-use borrow.Author.Rules.{rules}
 use borrow.Author.Tests.{lt-ltb}
 use Rattle.value.specs.Value.{bool, u8, u16, u32, u64, i8, i16, i32, i64, f32, f64, char, asn, pointer, tag}
 use Rattle.value.specs.Tags.{holds, held}

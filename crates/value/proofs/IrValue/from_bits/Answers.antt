@@ -1,6 +1,5 @@
 -- `from_bits`: a value is made where the bits fit.
 use mathlib.Core.Path.{sym, ◌∙◌}
-use borrow.Author.Rules.{rules}
 use Rattle.value.proofs.Roundtrip.{not_made}
 use Rattle.value.proofs.IrValue.from_bits.Goals as goal
 

@@ -1,5 +1,4 @@
 -- `read`: enough bytes are a number, and of a type's numbers only a Bool's can be no value's.
-use borrow.Author.Rules.{rules}
 use mathlib.Core.Path.{sym, subst}
 use Prim.Native.Nat.{ℕ, ◌≤◌}
 use Rattle.value.specs.Value.{kind_of}

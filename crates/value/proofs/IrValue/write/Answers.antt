@@ -1,5 +1,4 @@
 -- `write`: the slice is too short, or its front becomes the value's bytes.
-use borrow.Author.Rules.{rules}
 use Rattle.value.specs.Ir.{value_of}
 use Rattle.value.proofs.LowFirst.{write_short, write-whole}
 use Rattle.value.proofs.IrValue.write.Goals as goal

@@ -1,6 +1,5 @@
 -- `make`: by the tag, the bits fit their type, and the value is the kind's. A number that is no tag holds nothing.
 use mathlib.Core.Path.{sym, ap, ◌∙◌}
-use borrow.Author.Rules.{rules}
 use borrow.Author.Tests.{ltb-true}
 use mir.Syntax.{w8, w16, w32, w64}
 use mir.ValLaws.{to_z-of_z}

@@ -1,9 +1,8 @@
 -- `load`: the number so far is that of the bytes from i on.
 use mathlib.Core.Path.{◌≡◌, ◌∙◌, sym, ap}
-use Prim.Native.Nat.{ℕ, suc, ◌+◌, ◌-◌, ◌*◌, ◌<◌, ◌^◌, ◌≤◌}
+use Prim.Native.Nat.{ℕ, suc, ◌+◌, ◌-◌, ◌*◌}
 use native.Mathlib.Omega.{arith}
 use native.Mathlib.Nat.{sub-zero}
-use borrow.Author.Rules.{rules}
 use lib.ListN.{take, drop}
 use Rattle.value.specs.Value.{le_number}
 use Rattle.value.proofs.LowFirst.{number_cons, grow, small}

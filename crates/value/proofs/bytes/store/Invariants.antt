@@ -1,13 +1,9 @@
 -- `store`: what is still to be stored, stored, gives what is asked.
-use mathlib.Core.Path.{◌≡◌, ◌∙◌, sym, ap, refl}
-use Prim.Native.Nat.{ℕ, suc, ◌+◌, ◌-◌, ◌/◌, ◌%◌, ◌≤◌}
-use native.Mathlib.Omega.{arith}
-use native.Mathlib.Numerals.{add-one}
-use native.Mathlib.Nat.{sub-zero}
-use lib.ListN.{length, set, length-set}
+use mathlib.Core.Path.{◌≡◌}
+use Prim.Native.Nat.{◌-◌, ◌≤◌}
+use lib.ListN.{length}
 use lib.Seq.{sets}
 use Rattle.value.specs.Value.{le_bytes}
-use Rattle.value.proofs.LowFirst.{stored, none_left, at_front}
 use Rattle.value.proofs.bytes.store.Given as goal
 
 abbrev pub invariant-loop-i : goal.invariant-loop-i
