@@ -17,7 +17,7 @@ use Rattle.value.proofs.Tags.{kind_of_tag, tag-some, type_of_tag}
 use Rattle.value.proofs.Comparisons.{int_of_number, float_of_number}
 use Rattle.value.proofs.Roundtrip.{scalar_small}
 use Rattle.image.specs.Parse.{Got, took, refused, Field, and_then, give, ◌>>=◌}
-use Rattle.image.specs.Number.{number, bytes_of, bytes_from}
+use Rattle.image.specs.Number.{bytes_of, bytes_from}
 use Rattle.image.specs.Fields.{listed, known, optional, list_of, bytes, at_end}
 use Rattle.image.specs.Image.{Counts, versions, flags, items, flags_of, most_parameters, header, literal_of, u32, size, type, var, label, constant, callee, block, form, operand, slot, branch, declared, table, instruction, function, loaded}
 use Rattle.image.specs.Program.{Program, Operand, literal, Slot, Branch, Declared, Item, Function, Instruction, Jump, Switch, Assign, ConstantAddress, Call, Return, IntCmp', FloatCmp', Add, Sub, Mul, Div, Mod, FDiv, Not, Negate, Offset, Initialize, Write, Read, Copy, Drop}

@@ -15,7 +15,6 @@ use Rattle.value.specs.Value.{Kind, value, tag}
 use Rattle.value.specs.Tags.{kind_at, type_at, holds, int_cmps, float_cmps, int_cmp_at, float_cmp_at, int_cmp_number, float_cmp_number}
 use Rattle.value.proofs.Tags.{tag_of_kind, tag_of_type}
 use Rattle.image.specs.Parse.{took, Field, one}
-use Rattle.image.specs.Number.{number}
 use Rattle.image.specs.Fields.{listed, known, at_end}
 use Rattle.image.specs.Image.{Counts, versions, flags, items, flags_of, most_parameters, header, literal_of, u32, size, type, var, label, constant, callee, form, operand, slot, branch, declared, table, instruction, function, loaded}
 use Rattle.image.specs.Program.{Program, Operand, literal, Item, Jump, Switch, Assign, ConstantAddress, Call, Return, IntCmp', FloatCmp', Add, Sub, Mul, Div, Mod, FDiv, Not, Negate, Offset, Initialize, Write, Read, Copy, Drop}

@@ -1,6 +1,6 @@
 -- Small images and what loading answers: P1's program, which is written as its image again, and each refusal from 1 to 6 with its place, as one list that is computed; and P11.
 use Rattle.std.specs.Prelude.{ℕ, Bool, true, false, ◌&&◌, List, [], ◌∷◌, ◌≡◌, refl, length, take, replicate, eqb}
-use Rattle.std.proofs.Math.Option.{none, some}
+use Rattle.std.proofs.Math.Option.{some}
 use Rattle.value.specs.Cases.{Case, all_hold}
 use Rattle.value.specs.Refusal.{bytes_run_out, malformed, unknown, over_limit, beyond_count, left_over}
 use Rattle.value.specs.Value.{Kind, value, tag, is_scalar}
@@ -9,7 +9,7 @@ use Rattle.value.specs.Tags.{named, kind_at, type_of_kind, typed, holds, int_cmp
 use Rattle.image.specs.Parse.{Got, took, refused, and_then, many, within}
 use Rattle.image.specs.Number.{groups, number, bytes_of, bytes_from}
 use Rattle.image.specs.Fields.{such, known, optional, list_of, raw, bytes, at_end}
-use Rattle.image.specs.Image.{header, literal_of, type, var, label, constant, operand, table, instruction, function, constants, blocks, whole, image, program_of, loaded}
+use Rattle.image.specs.Image.{header, literal_of, type, var, label, operand, table, instruction, function, constants, blocks, whole, image, program_of, loaded}
 use Rattle.image.specs.Written.{pieces, written}
 use Rattle.image.specs.Written as W
 use Rattle.image.specs.Program.{Program, Operand, literal, Item, Add, Return}

@@ -5,7 +5,6 @@ use lib.Dec.{ltb}
 use Rattle.image.specs.Parse.{refused}
 use Rattle.image.specs.Answer.{got}
 use Rattle.image.proofs.Laws.{such-passed, such_failed, such-bad}
-use borrow.Author.Rules.{rules}
 use Rattle.image.proofs.field.below_after.Goals as goal
 
 pub returns-then-v-limit : goal.returns-then-v-limit

@@ -5,7 +5,6 @@ use Rattle.value.specs.Tags.{kind_at, held}
 use Rattle.image.specs.Parse.{refused}
 use Rattle.image.specs.Answer.{got}
 use Rattle.image.proofs.Laws.{such-passed, such_failed, such-bad}
-use borrow.Author.Rules.{rules}
 use Rattle.image.proofs.field.bits_after.Goals as goal
 
 pub returns-then-fits : goal.returns-then-fits

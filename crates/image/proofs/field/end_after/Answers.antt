@@ -1,6 +1,5 @@
 -- `end_after` meets its contract, by what its test says.
 use Rattle.image.proofs.Tests.{end_there, end-left}
-use borrow.Author.Rules.{rules}
 use Rattle.image.proofs.field.end_after.Goals as goal
 
 pub returns-then-image-at : goal.returns-then-image-at

@@ -6,7 +6,6 @@ use Rattle.value.specs.Refusal.{unknown}
 use Rattle.image.specs.Parse.{refused}
 use Rattle.image.specs.Answer.{got}
 use Rattle.image.proofs.Laws.{such-passed, such_failed, such-bad}
-use borrow.Author.Rules.{rules}
 use Rattle.image.proofs.field.only_after.Goals as goal
 
 pub returns-then-v-only : goal.returns-then-v-only

@@ -1,7 +1,6 @@
 -- `raw_after` meets its contract, by what its tests say.
 use native.Mathlib.Omega.{arith}
 use Rattle.image.proofs.Tests.{raw_there, raw_short}
-use borrow.Author.Rules.{rules}
 use Rattle.image.proofs.field.raw_after.Goals as goal
 
 pub returns-then-image-at : goal.returns-then-image-at

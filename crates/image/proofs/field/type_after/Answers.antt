@@ -5,7 +5,6 @@ use Rattle.image.specs.Parse.{refused}
 use Rattle.image.specs.Answer.{got, is_type}
 use Rattle.image.proofs.Tests.{type-named, type_unnamed}
 use Rattle.image.proofs.Laws.{such-passed, such_failed, such-bad}
-use borrow.Author.Rules.{rules}
 use Rattle.image.proofs.field.type_after.Goals as goal
 
 pub returns-in-Type : goal.returns-in-Type

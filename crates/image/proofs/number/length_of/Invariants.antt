@@ -1,10 +1,9 @@
 -- `length_of` meets its contract: the bytes counted and those of what is left make up the number's.
 use Prim.Native.Nat.{◌+◌}
-use native.Mathlib.Omega.{arith}
-use mathlib.Core.Path.{◌≡◌, refl, ap}
+use mathlib.Core.Path.{◌≡◌}
 use lib.ListN.{length}
 use Rattle.image.specs.Number.{bytes_from, bytes_of}
-use Rattle.image.proofs.Bytes.{last_byte, more_bytes, Held, held_spare, held-less}
+use Rattle.image.proofs.Bytes.{Held}
 use Rattle.image.proofs.number.length_of.Given as goal
 
 abbrev pub invariant-loop-left : goal.invariant-loop-left

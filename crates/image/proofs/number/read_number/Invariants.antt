@@ -1,11 +1,7 @@
 -- `read_number` meets its contract: what the groups from `at` on make, with `left`, `weight` and `sum`, is the number at `start`.
-use Prim.Native.Nat.{◌≤◌, ◌<◌, ◌-◌, ◌*◌, ◌^◌}
-use native.Mathlib.Omega.{arith}
-use borrow.Author.Rules.{rules}
-use mathlib.Core.Path.{◌≡◌, refl, sym, ◌∙◌}
-use mathlib.Core.Logic.{⊎_elim}
+use Prim.Native.Nat.{◌≤◌, ◌<◌, ◌*◌, ◌^◌}
+use mathlib.Core.Path.{◌≡◌}
 use Rattle.image.specs.Number.{groups, number}
-use Rattle.image.proofs.Groups.{out, last_one, last-bad, more', padded', ends', lighter, light, group_fits}
 use Rattle.image.proofs.number.read_number.Given as goal
 
 abbrev pub invariant-loop-left : goal.invariant-loop-left

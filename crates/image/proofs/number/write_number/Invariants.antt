@@ -1,12 +1,10 @@
 -- `write_number` meets its contract: storing the bytes of what is left finishes the whole store.
 use Prim.Native.Nat.{◌+◌}
-use native.Mathlib.Omega.{arith}
-use borrow.Author.Rules.{rules}
-use mathlib.Core.Path.{◌≡◌, refl, ap}
-use lib.ListN.{length, length-set}
+use mathlib.Core.Path.{◌≡◌}
+use lib.ListN.{length}
 use lib.Seq.{sets}
 use Rattle.image.specs.Number.{bytes_from, bytes_of}
-use Rattle.image.proofs.Bytes.{last_byte, more_bytes, Held, held_spare, held-less, write-more, write-last, stored, no_room}
+use Rattle.image.proofs.Bytes.{Held}
 use Rattle.image.proofs.number.write_number.Given as goal
 
 abbrev pub invariant-loop-left : goal.invariant-loop-left
