@@ -11,7 +11,7 @@ use borrow.Author.Tests.{ltb-true, ltb-false, leb-true, leb-false, eqb-true, eqb
 use Rattle.value.specs.Answer.{ok, refused, need, pick}
 use Rattle.value.specs.Refusal.{allocations_full, bytes_full, pointers_full}
 use Rattle.memory.specs.Memory.{Frame, local, no_frame, with_allocations, allocated, allocate}
-use Rattle.memory.specs.Tables.{Tables, tables, Out, registers, more, pointer, pointer_at, pointer_set, zeroed, ready, live, bound, top_first, id_above, pointer_ok, pointers_ok, room_of, made, unmade, allocated_of}
+use Rattle.memory.specs.Tables.{Tables, tables, Out, more, pointer, pointer_at, pointer_set, zeroed, ready, live, bound, top_first, id_above, pointer_ok, pointers_ok, room_of, made, unmade, allocated_of}
 use Rattle.memory.specs.View.{tab, part, bytes_of, allocations_in, frame_in, pointer_in, view, after_allocate}
 use Rattle.memory.specs.declared.Registers.{Registers}
 use Rattle.memory.specs.declared.PointerRecord.{PointerRecord}

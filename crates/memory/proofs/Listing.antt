@@ -15,7 +15,7 @@ use Rattle.value.proofs.Truth.{both_true, no}
 use Rattle.memory.specs.Memory.{Frame, Pointer, constant, local, Memory, stands, divides, access, written, write_at, write_bytes, live_pointer, live_list}
 use Rattle.memory.specs.Memory as M
 use Rattle.memory.specs.Live.{listed}
-use Rattle.memory.specs.Tables.{Tables, ready, pointer_at, ranked_of, standing_of, flag_of, record_of, filled, Columns, filled_of, roomy_of, listed_of}
+use Rattle.memory.specs.Tables.{Tables, pointer_at, ranked_of, standing_of, flag_of, record_of, filled, Columns, filled_of, roomy_of, listed_of}
 use Rattle.memory.specs.View.{tab, frame_in, pointer_in, view, live_in}
 use Rattle.memory.specs.declared.PointerRecord.{PointerRecord}
 use Rattle.memory.specs.declared.LiveRecord.{LiveRecord}

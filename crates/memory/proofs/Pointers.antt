@@ -12,7 +12,7 @@ use Rattle.value.specs.Answer.{ok, refused, need, pick}
 use Rattle.value.specs.Refusal.{not_given_out, through_constant, offset_too_large, pointers_full}
 use Rattle.memory.specs.Memory.{Pointer, constant, local, with_pointer, constant_address, offset_at, offset_by}
 use Rattle.memory.specs.Memory as M
-use Rattle.memory.specs.Tables.{Tables, tables, registers, both, more, pointer, pointer_at, pointer_set, handed, offset_of, address_of, pointer_ok, pointers_ok}
+use Rattle.memory.specs.Tables.{Tables, tables, both, more, pointer, pointer_at, pointer_set, handed, offset_of, address_of, pointer_ok, pointers_ok}
 use Rattle.memory.specs.View.{tab, pointer_in, view, after_pointer}
 use Rattle.memory.specs.declared.Registers.{Registers}
 use Rattle.memory.specs.declared.PointerRecord.{PointerRecord}

@@ -1,8 +1,7 @@
 -- `memory::allocate` meets its contract: each refusal by the tests on the way, the grant by `allocated-made`, which takes them all.
 use native.Mathlib.Omega.{arith}
 use mathlib.Core.Path.{◌∙◌, sym}
-use borrow.Author.Rules.{rules}
-use borrow.Author.Tests.{le-ltb, lt-ltb, le-leb, lt-leb, eq-eqb, ne_eqb, not-true, not-false}
+use borrow.Author.Tests.{le-ltb, lt-ltb, le-leb, lt-leb, eq-eqb, ne_eqb}
 use Rattle.memory.specs.Tables.{allocated_of}
 use Rattle.memory.proofs.Laws.{ready_of_lem, allocated-made}
 use Rattle.memory.proofs.allocate.Goals as goal

@@ -1,5 +1,4 @@
 -- `memory::constant_access` meets its contract: by the tests on the way to each answer.
-use borrow.Author.Rules.{rules}
 use borrow.Author.Tests.{le-ltb, lt-ltb, le-leb, lt-leb}
 use Rattle.memory.specs.Tables.{constant_access_of}
 use Rattle.memory.proofs.constant_access.Goals as goal

@@ -1,6 +1,5 @@
 -- `memory::constant_address` meets its contract: by the tests on the way to each answer.
 use Rattle.memory.specs.Tables.{address_of}
-use borrow.Author.Rules.{rules}
 use borrow.Author.Tests.{le-leb, lt-leb, eq-eqb, ne_eqb}
 use Rattle.memory.proofs.constant_address.Goals as goal
 

@@ -1,10 +1,8 @@
 -- `memory::copy_out` meets its contract: the bytes passed are pasted, the rest as they were.
-use Prim.Native.Nat.{◌≤◌, ◌<◌, ◌-◌, ◌+◌}
-use Rattle.memory.proofs.Lists.{filled, full}
-use borrow.Author.Rules.{rules}
+use Prim.Native.Nat.{◌<◌, ◌+◌}
+use Rattle.memory.proofs.Lists.{filled}
 use lib.ListN.{length-drop, length, set, length-set, drop, get_or}
-use lib.Seq.{paste, paste-zero}
-use mathlib.Core.Path.{◌≡◌, refl, ap, ◌∙◌}
+use mathlib.Core.Path.{ap, ◌∙◌}
 use native.Mathlib.Omega.{arith}
 use Rattle.memory.proofs.copy_out.Goals as goal
 

@@ -2,8 +2,7 @@
 use Rattle.memory.proofs.Laws.{ready_of_lem, fresh-made, all_same}
 use Rattle.memory.proofs.Lists.{clear_all}
 use Rattle.memory.specs.Tables.{fresh_of, zeroed}
-use borrow.Author.Rules.{rules}
-use borrow.Author.Tests.{ne_eqb, not-true, not-false}
+use borrow.Author.Tests.{ne_eqb}
 use mathlib.Core.Path.{ap, ◌∙◌, sym}
 use native.Mathlib.Omega.{arith}
 use Rattle.memory.proofs.fresh.Goals as goal

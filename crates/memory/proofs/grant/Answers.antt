@@ -1,8 +1,6 @@
 -- `memory::grant` meets its contract: what the grant shows of the tables bounds every index and sum.
 use native.Mathlib.Omega.{arith}
-use mathlib.Core.Path.{◌∙◌, sym}
-use borrow.Author.Rules.{rules}
-use Rattle.memory.proofs.Laws.{granted, out-same}
+use Rattle.memory.proofs.Laws.{granted}
 use Rattle.memory.proofs.grant.Goals as goal
 
 pub overflow_mul-e : goal.overflow_mul-e

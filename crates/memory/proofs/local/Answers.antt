@@ -1,7 +1,6 @@
 -- `memory::local` meets its contract: by cases of what `standing` and `within` ensure; a rank is below 512.
 use Rattle.memory.proofs.Laws.{standing-few}
 use Rattle.memory.specs.Tables.{local_of}
-use borrow.Author.Rules.{rules}
 use mathlib.Core.Path.{◌∙◌, sym}
 use native.Mathlib.Omega.{arith}
 use Rattle.memory.proofs.local.Goals as goal

@@ -1,6 +1,5 @@
 -- `memory::pop_frame` meets its contract: by the tests on the way to each answer.
 use Rattle.memory.specs.Tables.{popped_of}
-use borrow.Author.Rules.{rules}
 use borrow.Author.Tests.{le-ltb, lt-ltb, le-leb, lt-leb, eq-eqb, ne_eqb}
 use Rattle.memory.proofs.pop_frame.Goals as goal
 

@@ -2,8 +2,6 @@
 use Rattle.memory.specs.Tables.{pushed_of}
 use borrow.Author.Rules.{rules}
 use borrow.Author.Tests.{le-ltb, lt-ltb, le-leb, lt-leb, eq-eqb, ne_eqb}
-use lib.ListN.{length-set}
-use native.Mathlib.Omega.{arith}
 use Rattle.memory.proofs.push_frame.Goals as goal
 
 pub returns-then-frames-ne-FRAMES_LENGTH : goal.returns-then-frames-ne-FRAMES_LENGTH

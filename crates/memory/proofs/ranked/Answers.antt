@@ -1,6 +1,5 @@
 -- `memory::ranked` meets its contract: by the tests on the way to each answer.
 use Rattle.memory.specs.Tables.{ranked_of}
-use borrow.Author.Rules.{rules}
 use borrow.Author.Tests.{le-ltb, lt-ltb, le-leb, lt-leb}
 use Rattle.memory.proofs.ranked.Goals as goal
 

@@ -1,8 +1,7 @@
 -- `memory::read_access` meets its contract: by the tests on the way to each answer; `ready` gives the lengths.
 use Rattle.memory.proofs.Laws.{ready_of_lem}
 use Rattle.memory.specs.Tables.{read_access_of}
-use borrow.Author.Rules.{rules}
-use borrow.Author.Tests.{le-leb, lt-leb, eq-eqb, ne_eqb, not-true, not-false}
+use borrow.Author.Tests.{le-leb, lt-leb, eq-eqb, ne_eqb}
 use mathlib.Core.Path.{◌∙◌, sym}
 use native.Mathlib.Omega.{arith}
 use Rattle.memory.proofs.read_access.Goals as goal

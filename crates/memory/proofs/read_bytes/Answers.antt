@@ -1,7 +1,6 @@
 -- `memory::read_bytes` meets its contract: by cases of what `read_access` ensures; a granted place has its bytes in the store.
 use Rattle.memory.proofs.Laws.{read_fits}
 use Rattle.memory.specs.Tables.{read_of}
-use borrow.Author.Rules.{rules}
 use mathlib.Core.Path.{◌∙◌, sym}
 use Rattle.memory.proofs.read_bytes.Goals as goal
 

@@ -1,5 +1,4 @@
 -- `memory::read_constant` meets its contract: by cases of what `constant_access` ensures; a granted place has its bytes in the image.
-use borrow.Author.Rules.{rules}
 use mathlib.Core.Path.{◌∙◌, sym}
 use Rattle.memory.specs.Tables.{constant_of}
 use Rattle.memory.proofs.Laws.{constant-fits}

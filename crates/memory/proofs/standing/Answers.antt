@@ -1,6 +1,5 @@
 -- `memory::standing` meets its contract: by the tests on the way to each answer.
 use Rattle.memory.specs.Tables.{standing_of}
-use borrow.Author.Rules.{rules}
 use borrow.Author.Tests.{le-leb, lt-leb, eq-eqb, ne_eqb}
 use Rattle.memory.proofs.standing.Goals as goal
 

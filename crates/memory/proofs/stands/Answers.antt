@@ -1,6 +1,5 @@
 -- `memory::stands` meets its contract: by the tests on the way to each answer.
 use Rattle.memory.specs.Tables.{stands_of}
-use borrow.Author.Rules.{rules}
 use borrow.Author.Tests.{le-ltb, lt-ltb, eq-eqb, ne_eqb}
 use Rattle.memory.proofs.stands.Goals as goal
 

@@ -1,7 +1,6 @@
 -- `memory::within` meets its contract: by the tests on the way to each answer.
 use Rattle.memory.specs.Tables.{within_of}
-use borrow.Author.Rules.{rules}
-use borrow.Author.Tests.{le-ltb, lt-ltb, not-true, not-false}
+use borrow.Author.Tests.{le-ltb, lt-ltb}
 use Rattle.memory.proofs.within.Goals as goal
 
 pub returns-then-stop-gt-MAX_BYTES : goal.returns-then-stop-gt-MAX_BYTES

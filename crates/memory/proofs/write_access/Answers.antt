@@ -1,6 +1,5 @@
 -- `memory::write_access` meets its contract: by cases of what `read_access` ensures.
 use Rattle.memory.specs.Tables.{write_access_of}
-use borrow.Author.Rules.{rules}
 use Rattle.memory.proofs.write_access.Goals as goal
 
 pub returns-in-Local : goal.returns-in-Local

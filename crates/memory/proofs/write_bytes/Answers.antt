@@ -1,7 +1,6 @@
 -- `memory::write_bytes_lem` meets its contract: by cases of what `write_access` ensures; a granted place has its bytes in the store.
 use Rattle.memory.proofs.Laws.{write-fits}
 use Rattle.memory.specs.Tables.{written_of}
-use borrow.Author.Rules.{rules}
 use mathlib.Core.Path.{◌∙◌, sym}
 use Rattle.memory.proofs.write_bytes.Goals as goal
 

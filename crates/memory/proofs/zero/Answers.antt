@@ -1,10 +1,8 @@
 -- `memory::zero` meets its contract: the bytes passed are 0, the rest as they were.
-use Prim.Native.Nat.{◌≤◌, ◌-◌, ◌+◌}
+use Prim.Native.Nat.{◌+◌}
 use Rattle.memory.proofs.Lists.{zero_none, zero_more}
-use Rattle.memory.specs.Tables.{zeroed}
-use borrow.Author.Rules.{rules}
-use lib.ListN.{length, set, length-set}
-use mathlib.Core.Path.{◌≡◌, refl, ap, ◌∙◌}
+use lib.ListN.{set, length-set}
+use mathlib.Core.Path.{refl, ap, ◌∙◌}
 use native.Mathlib.Omega.{arith}
 use Rattle.memory.proofs.zero.Goals as goal
 

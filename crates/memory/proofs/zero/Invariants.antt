@@ -1,11 +1,8 @@
 -- `memory::zero` meets its contract: the bytes passed are 0, the rest as they were.
-use Prim.Native.Nat.{◌≤◌, ◌-◌, ◌+◌}
-use Rattle.memory.proofs.Lists.{zero_none, zero_more}
+use Prim.Native.Nat.{◌≤◌, ◌-◌}
 use Rattle.memory.specs.Tables.{zeroed}
-use borrow.Author.Rules.{rules}
-use lib.ListN.{length, set, length-set}
-use mathlib.Core.Path.{◌≡◌, refl, ap, ◌∙◌}
-use native.Mathlib.Omega.{arith}
+use lib.ListN.{length}
+use mathlib.Core.Path.{◌≡◌}
 use Rattle.memory.proofs.zero.Given as goal
 
 abbrev pub invariant-loop-i : goal.invariant-loop-i
