@@ -12,7 +12,7 @@ use Rattle.value.specs.Answer.{Answer, ok, refused, pick, ◌>>=◌}
 use Rattle.value.specs.Value.{value, pointer}
 use Rattle.image.specs.Program.{Slot}
 use Rattle.memory.specs.Memory.{Memory, allocate}
-use Rattle.memory.specs.Tables.{Tables, tables, registers, Out, ready, live, top_first, bound, more, zeroed, made, unmade, allocated_of, with_pointers}
+use Rattle.memory.specs.Tables.{Tables, tables, Out, ready, live, top_first, bound, more, zeroed, made, unmade, allocated_of, with_pointers}
 use Rattle.memory.specs.View.{view, after_allocate}
 use Rattle.memory.specs.declared.Moved.TheVariants as moved
 use Rattle.memory.proofs.Every.{by_test}

@@ -8,7 +8,7 @@ use mathlib.Core.List.{List, [], ◌∷◌, ◌++◌, append_assoc}
 use mathlib.Core.Option.{Option, none, some}
 use lib.ListN.{length, get_or}
 use borrow.Author.Tests.{lt-leb, ne_eqb}
-use Rattle.image.specs.Program.{Operand, variable, Slot, Declared, Program, Function, function_at, place_of, Call}
+use Rattle.image.specs.Program.{Operand, Slot, Declared, Program, Function, function_at, place_of, Call}
 use Rattle.image.specs.Written.{Piece, num}
 use Rattle.image.specs.Written as W
 use Rattle.image.specs.Standing.{Stand}
