@@ -209,6 +209,7 @@ none-among (k ∷ k' ∷ ks) x h = rw (ne_eqb x k (λ e. h (inl e))) (none-among
 -- an opcode that is one of several, which have the same fields
 pub keyed : (s : List ℕ) (past : ℕ → ℕ) (ks : List ℕ) (opcode : ℕ) → Each (λ k. past_fields s k ≡ past) ks → OneOf ks opcode → past_fields s opcode ≡ past
 unfolding Each
+keyed s past [] opcode h e = elim e [ ]
 keyed s past (k ∷ []) opcode h e = ap (past_fields s) e ∙ h.0
 keyed s past (k ∷ k' ∷ ks) opcode h (inl e) = ap (past_fields s) e ∙ h.0
 keyed s past (k ∷ k' ∷ ks) opcode h (inr r) = keyed s past (k' ∷ ks) opcode h.1 r

@@ -1,5 +1,5 @@
 -- What the image writer answers and leaves in its buffer.
-use Rattle.std.specs.Prelude.{ℕ, ◌+◌, ◌≤◌, List, ◌++◌, ◌≡◌, length, take, drop, leb}
+use Rattle.std.specs.Prelude.{ℕ, ◌≤◌, List, ◌++◌, ◌≡◌, length, take, drop, leb}
 use Rattle.value.specs.Answer.{pick}
 use Rattle.image.specs.declared.number.Written.{Written}
 use Rattle.image.specs.declared.number.Written.TheVariants.{To, Full}

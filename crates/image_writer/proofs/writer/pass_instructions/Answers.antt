@@ -1,0 +1,14 @@
+-- `pass_instructions` meets its contract: after i turns so many items are passed.
+use native.Mathlib.Omega.{arith}
+use mathlib.Core.Path.{refl}
+use Rattle.image_writer.specs.Past.{past_instruction}
+use Rattle.image_writer.proofs.Keeps.{none_passed, more-passed}
+use Rattle.image_writer.proofs.writer.pass_instructions.Goals as goal
+
+pub loop-i-init : goal.loop-i-init
+loop-i-init c = (none_passed (past_instruction c.args.image.now), omega arith, refl)
+
+pub loop-i-preserved : goal.loop-i-preserved
+loop-i-preserved c =
+    let l = c.loop-i in
+    (more-passed (past_instruction c.args.image.now) l.i l.invariant.0 c.pass_instruction-c.ensures, omega arith, omega (arith, l.invariant.2, c.out-1.given))
