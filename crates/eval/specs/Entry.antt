@@ -15,7 +15,7 @@ use Rattle.instruction.specs.declared.step.Progress.TheVariants as progress
 use Rattle.step.specs.Items.{Items}
 use Rattle.eval.specs.Loaded.{items_of}
 use Rattle.step.specs.Step.{stepped_of}
-use Rattle.run.specs.Run.{Running, running, resting, ran_of}
+use Rattle.run.specs.Run.{Running, resting, ran_of}
 use Rattle.run.specs.declared.Ran.{Ran}
 use Rattle.run.specs.declared.Ran.TheVariants as ran
 use Rattle.eval.specs.declared.entry.Entered.{Entered}
