@@ -2,8 +2,8 @@
 // what the calls answered: a line for each row of SCRIPT, with how many calls were granted and the last refusal, 0 for none.
 #![tactic(auto)]
 
-use libc::STDOUT_FILENO;
 use memory::{Given, Moved, Outcome, Popped, Registers};
+use std::io;
 
 // What a row does.
 const FRESH: u64 = 0;
@@ -328,32 +328,31 @@ fn outcome(t: Tally, r: Outcome) -> Tally {
     }
 }
 
-fn number(n: u64) {
-    io::write_all(STDOUT_FILENO, b" ");
-    io::print_decimal(STDOUT_FILENO, n);
+fn number(rt: &impl Print, n: u64) -> io::Result<()> {
+    print!(rt; " {n}")
 }
 
-fn name(what: u64) {
+fn name(rt: &impl Print, what: u64) -> io::Result<()> {
     match what {
-        FRESH => io::write_all(STDOUT_FILENO, b"fresh"),
-        PUSH => io::write_all(STDOUT_FILENO, b"push"),
-        POP => io::write_all(STDOUT_FILENO, b"pop"),
-        ALLOCATE => io::write_all(STDOUT_FILENO, b"allocate"),
-        OFFSET => io::write_all(STDOUT_FILENO, b"offset"),
-        ADDRESS => io::write_all(STDOUT_FILENO, b"address"),
-        WRITE => io::write_all(STDOUT_FILENO, b"write"),
-        READ => io::write_all(STDOUT_FILENO, b"read"),
-        SOUND => io::write_all(STDOUT_FILENO, b"sound"),
-        _ => io::write_all(STDOUT_FILENO, b"list"),
-    };
+        FRESH => rt.print("fresh"),
+        PUSH => rt.print("push"),
+        POP => rt.print("pop"),
+        ALLOCATE => rt.print("allocate"),
+        OFFSET => rt.print("offset"),
+        ADDRESS => rt.print("address"),
+        WRITE => rt.print("write"),
+        READ => rt.print("read"),
+        SOUND => rt.print("sound"),
+        _ => rt.print("list"),
+    }
 }
 
-fn tell(t: Tally) {
-    io::write_all(STDOUT_FILENO, b":");
-    number(t.granted);
-    io::write_all(STDOUT_FILENO, b" granted,");
-    number(t.refusal);
-    io::write_all(STDOUT_FILENO, b"\n");
+fn tell(rt: &impl Print, t: Tally) -> io::Result<()> {
+    rt.print(":")?;
+    number(rt, t.granted)?;
+    rt.print(" granted,")?;
+    number(rt, t.refusal)?;
+    rt.print("\n")
 }
 
 // The counter, but at least so much.
@@ -430,6 +429,7 @@ fn first(bytes: &[u8]) -> u64 {
 
 // A read into these bytes, and the first of them afterwards.
 fn read_into(
+    rt: &impl Print,
     m: Registers,
     p: u64,
     bytes: &mut [u8],
@@ -437,15 +437,16 @@ fn read_into(
     frames: &[u64],
     bounds: &[u64],
     pointers: &[u64],
-) -> Tally {
+) -> io::Result<Tally> {
     let r = memory::read_bytes(
         m, p as usize, bytes, store, frames, bounds, pointers, store, frames,
     );
-    number(first(bytes));
-    outcome(begun(m), r)
+    number(rt, first(bytes))?;
+    Ok(outcome(begun(m), r))
 }
 
 fn reads(
+    rt: &impl Print,
     m: Registers,
     p: u64,
     size: u64,
@@ -454,12 +455,12 @@ fn reads(
     frames: &[u64],
     bounds: &[u64],
     pointers: &[u64],
-) -> Tally {
+) -> io::Result<Tally> {
     let n = size as usize;
     if space.len() < n {
-        return begun(m);
+        return Ok(begun(m));
     }
-    read_into(m, p, &mut space[..n], store, frames, bounds, pointers)
+    read_into(rt, m, p, &mut space[..n], store, frames, bounds, pointers)
 }
 
 fn writes(
@@ -504,12 +505,13 @@ fn sounds(
 
 // The live list with room for one record alone.
 fn list_short(
+    rt: &impl Print,
     m: Registers,
     store: &[u8],
     frames: &[u64],
     bounds: &[u64],
     pointers: &[u64],
-) -> Tally {
+) -> io::Result<Tally> {
     let mut live = [9u64; 4];
     let mut frame = [9u64; 4];
     let mut allocation = [9u64; 4];
@@ -525,18 +527,19 @@ fn list_short(
         &mut allocation,
         &mut offset,
     );
-    number(live[0]);
-    outcome(begun(m), r)
+    number(rt, live[0])?;
+    Ok(outcome(begun(m), r))
 }
 
 // The live list with room for four records: whether the first three live, and the frame of the first.
 fn list_long(
+    rt: &impl Print,
     m: Registers,
     store: &[u8],
     frames: &[u64],
     bounds: &[u64],
     pointers: &[u64],
-) -> Tally {
+) -> io::Result<Tally> {
     let mut live = [9u64; 4];
     let mut frame = [9u64; 4];
     let mut allocation = [9u64; 4];
@@ -552,14 +555,15 @@ fn list_long(
         &mut allocation,
         &mut offset,
     );
-    number(live[0]);
-    number(live[1]);
-    number(live[2]);
-    number(frame[0]);
-    outcome(begun(m), r)
+    number(rt, live[0])?;
+    number(rt, live[1])?;
+    number(rt, live[2])?;
+    number(rt, frame[0])?;
+    Ok(outcome(begun(m), r))
 }
 
 fn act(
+    rt: &impl Print,
     what: u64,
     n: u64,
     a: u64,
@@ -572,8 +576,8 @@ fn act(
     bounds: &mut [u64],
     pointers: &mut [u64],
     variables: &mut [u64],
-) -> Tally {
-    match what {
+) -> io::Result<Tally> {
+    let t = match what {
         FRESH => moved(
             begun(m),
             memory::fresh(store, frames, bounds, pointers, variables),
@@ -584,15 +588,17 @@ fn act(
         OFFSET => offsets(m, n, a, b, pointers),
         ADDRESS => given(begun(m), memory::constant_address(m, a, pointers)),
         WRITE => writes(m, a, b, full, store, frames, bounds, pointers),
-        READ => reads(m, a, b, space, store, frames, bounds, pointers),
+        READ => reads(rt, m, a, b, space, store, frames, bounds, pointers)?,
         SOUND => sounds(m, a, store, frames, bounds, pointers, variables),
-        LIST_SHORT => list_short(m, store, frames, bounds, pointers),
-        _ => list_long(m, store, frames, bounds, pointers),
-    }
+        LIST_SHORT => list_short(rt, m, store, frames, bounds, pointers)?,
+        _ => list_long(rt, m, store, frames, bounds, pointers)?,
+    };
+    Ok(t)
 }
 
 // Each row of the script in turn.
 fn run(
+    rt: &impl Print,
     m: Registers,
     full: &[u8],
     space: &mut [u8],
@@ -601,7 +607,7 @@ fn run(
     bounds: &mut [u64],
     pointers: &mut [u64],
     variables: &mut [u64],
-) {
+) -> io::Result<()> {
     let mut s = m;
     let mut i = 0;
     while i < ROWS {
@@ -610,20 +616,21 @@ fn run(
         let n = SCRIPT[at + 1];
         let a = SCRIPT[at + 2];
         let b = SCRIPT[at + 3];
-        name(what);
-        number(n);
-        number(a);
-        number(b);
+        name(rt, what)?;
+        number(rt, n)?;
+        number(rt, a)?;
+        number(rt, b)?;
         let t = act(
-            what, n, a, b, s, full, space, store, frames, bounds, pointers, variables,
-        );
-        tell(t);
+            rt, what, n, a, b, s, full, space, store, frames, bounds, pointers, variables,
+        )?;
+        tell(rt, t)?;
         s = t.registers;
         i += 1;
     }
+    Ok(())
 }
 
-fn main() {
+fn main(rt: HostRuntime) -> io::Result<()> {
     let mut store = [171u8; 32768];
     let mut frames = [171u64; 260];
     let mut bounds = [171u64; 513];
@@ -639,6 +646,7 @@ fn main() {
     let full = [255u8; 64];
     let mut space = [1u8; 64];
     run(
+        &rt,
         m,
         &full,
         &mut space,
@@ -647,5 +655,5 @@ fn main() {
         &mut bounds,
         &mut pointers,
         &mut variables,
-    );
+    )
 }
