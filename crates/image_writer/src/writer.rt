@@ -30,7 +30,7 @@ fn place_of(w: Written, start: usize) -> usize
 // A number.
 fn pass_number(image: &[u8], out: &mut [u8], c: Pass) -> Pass
     ensures passed { Passed image.now (past_number image.now) c out.old result out.new }
-    ensures value_value { result.value ≡ number_at image.now c.from }
+    ensures number { result.value ≡ number_at image.now c.from }
 {
     match read_number(image, c.from) {
         Number::Value(v, next) => {

@@ -4,4 +4,4 @@ use Rattle.image_writer.proofs.Keeps.{list_passed}
 use Rattle.image_writer.proofs.writer.pass_block.Goals as goal
 
 pub returns : goal.returns
-returns c = list_passed (past_instruction c.args.image.now) c.pass_number-count.ensures.passed c.pass_number-count.ensures.value_value c.pass_instructions.ensures
+returns c = list_passed (past_instruction c.args.image.now) c.pass_number-count.ensures.passed c.pass_number-count.ensures.number c.pass_instructions.ensures

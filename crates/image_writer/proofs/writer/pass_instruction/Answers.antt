@@ -3,4 +3,4 @@ use Rattle.image_writer.proofs.Keeps.{fields-passed}
 use Rattle.image_writer.proofs.writer.pass_instruction.Goals as goal
 
 pub returns : goal.returns
-returns c = fields-passed c.pass_number-opcode.ensures.passed c.pass_number-opcode.ensures.value_value c.pass_fields.ensures
+returns c = fields-passed c.pass_number-opcode.ensures.passed c.pass_number-opcode.ensures.number c.pass_fields.ensures

@@ -8,10 +8,10 @@ returns-in-Value c =
     let g = c.read_number in
     let w = c.write_number in
     let r = number_passed a.image.now (λ k. (c.type_inv.image k).fits) a.c a.out.now g.result g.ensures
-    _ _ _ w.result _ c.in-Value.is w.ensures c.place_of-to.ensures in record { passed = r.0; value_value = r.1 }
+    _ _ _ w.result _ c.in-Value.is w.ensures c.place_of-to.ensures in record { passed = r.0; number = r.1 }
 
 pub returns-in-Bad : goal.returns-in-Bad
 returns-in-Bad c =
     let a = c.args in
     let g = c.read_number in
-    let r = number-stays a.image.now (λ k. (c.type_inv.image k).fits) a.c a.out.now g.result g.ensures _ _ c.in-Bad.is in record { passed = r.0; value_value = r.1 }
+    let r = number-stays a.image.now (λ k. (c.type_inv.image k).fits) a.c a.out.now g.result g.ensures _ _ c.in-Bad.is in record { passed = r.0; number = r.1 }

@@ -4,8 +4,8 @@ use Rattle.image_writer.proofs.Keeps.{absent_passed, present_passed}
 use Rattle.image_writer.proofs.writer.pass_optional_pair.Goals as goal
 
 pub returns-then-mark-eq0 : goal.returns-then-mark-eq0
-returns-then-mark-eq0 c = absent_passed (past_pair c.args.image.now) c.pass_number-mark.ensures.passed c.pass_number-mark.ensures.value_value c.if-mark-eq0.true
+returns-then-mark-eq0 c = absent_passed (past_pair c.args.image.now) c.pass_number-mark.ensures.passed c.pass_number-mark.ensures.number c.if-mark-eq0.true
 
 pub returns : goal.returns
 returns c =
-    present_passed (past_pair c.args.image.now) c.pass_number-mark.ensures.passed c.pass_number-mark.ensures.value_value c.if-mark-eq0.false c.pass_pair.ensures
+    present_passed (past_pair c.args.image.now) c.pass_number-mark.ensures.passed c.pass_number-mark.ensures.number c.if-mark-eq0.false c.pass_pair.ensures

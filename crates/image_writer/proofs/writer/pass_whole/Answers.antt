@@ -5,4 +5,4 @@ use Rattle.image_writer.proofs.writer.pass_whole.Goals as goal
 pub returns : goal.returns
 returns c =
     whole-passed c.pass_numbers-variables.ensures c.pass_number-constants.ensures.passed c.pass_number-functions.ensures.passed c.pass_number-blocks.ensures.passed
-    c.pass_number-constants.ensures.value_value c.pass_number-functions.ensures.value_value c.pass_number-blocks.ensures.value_value c.pass_parts.ensures
+    c.pass_number-constants.ensures.number c.pass_number-functions.ensures.number c.pass_number-blocks.ensures.number c.pass_parts.ensures
