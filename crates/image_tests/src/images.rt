@@ -3,6 +3,8 @@ use crate::line::Line;
 use crate::{line, say};
 use image::field::Step;
 use loader::load::load;
+use std::rt::{Env, Files};
+use std::{env, fs, io};
 
 // A refusal, or 0 and 0.
 #[derive(Clone, Copy)]
@@ -67,21 +69,21 @@ fn tried(line: Line, image: &[u8], tally: &mut [u64]) -> bool {
 }
 
 // A wrong line is printed by its number.
-fn judged(right: bool, number: u64) -> u64 {
+fn judged(rt: &impl Print, right: bool, number: u64) -> io::Result<u64> {
     if right {
-        return 1;
+        return Ok(1);
     }
-    say::text(b"wrong: line ");
-    say::number(number);
-    say::text(b"\n");
-    0
+    say::text(rt, "wrong: line ")?;
+    say::number(rt, number)?;
+    say::text(rt, "\n")?;
+    Ok(0)
 }
 
-fn print_right(right: u64, lines: u64) {
-    say::text(b"images ");
-    say::number(right);
-    say::text(b" right of");
-    say::count(lines);
+fn print_right(rt: &impl Print, right: u64, lines: u64) -> io::Result<()> {
+    say::text(rt, "images ")?;
+    say::number(rt, right)?;
+    say::text(rt, " right of")?;
+    say::count(rt, lines)
 }
 
 // The line that is read, how many were, and how many of them agree.
@@ -101,78 +103,81 @@ fn begun() -> Progress {
 }
 
 // One more byte of the list.
-fn advance(p: Progress, byte: u8, image: &mut [u8], tally: &mut [u64]) -> Progress {
+fn advance(
+    rt: &impl Print,
+    p: Progress,
+    byte: u8,
+    image: &mut [u8],
+    tally: &mut [u64],
+) -> io::Result<Progress> {
     let mut q = p;
     if byte == b'\n' {
         let good = tried(q.line, image, tally);
         q.lines = std::num::wrapping_add_u64(q.lines, 1);
-        q.right = std::num::wrapping_add_u64(q.right, judged(good, q.lines));
+        q.right = std::num::wrapping_add_u64(q.right, judged(rt, good, q.lines)?);
         q.line = line::fresh();
-        return q;
+        return Ok(q);
     }
     q.line = line::next(q.line, byte, image);
-    q
+    Ok(q)
 }
 
-fn compare(s: &[u8], image: &mut [u8], tally: &mut [u64]) {
+fn compare(rt: &impl Print, s: &[u8], image: &mut [u8], tally: &mut [u64]) -> io::Result<()> {
     let mut p = begun();
     let mut i = 0usize;
     while i < s.len() {
-        p = advance(p, s[i], image, tally);
+        p = advance(rt, p, s[i], image, tally)?;
         i += 1;
     }
-    print_right(p.right, p.lines);
+    print_right(rt, p.right, p.lines)
 }
 
-fn label(number: u64) {
+fn label(rt: &impl Print, number: u64) -> io::Result<()> {
     if number == 0 {
-        say::text(b"taken");
-        return;
+        return say::text(rt, "taken");
     }
-    say::text(b"refused ");
-    say::number(number);
-    say::text(b":");
+    say::text(rt, "refused ")?;
+    say::number(rt, number)?;
+    say::text(rt, ":")
 }
 
 // How many were taken, and refused by each number.
-fn print_tally(tally: &[u64]) {
+fn print_tally(rt: &impl Print, tally: &[u64]) -> io::Result<()> {
     let mut i = 0usize;
     while i < tally.len() {
-        label(i as u64);
-        say::count(tally[i]);
+        label(rt, i as u64)?;
+        say::count(rt, tally[i])?;
         i += 1;
     }
+    Ok(())
 }
 
-fn count(s: &[u8], image: &mut [u8]) {
+fn count(rt: &impl Print, s: &[u8], image: &mut [u8]) -> io::Result<()> {
     let mut tally = [0u64; 7];
-    compare(s, image, &mut tally);
-    print_tally(&tally);
+    compare(rt, s, image, &mut tally)?;
+    print_tally(rt, &tally)
 }
 
-fn with_image(s: &[u8], image: &mut [u8; 40000]) {
-    count(s, image);
+fn with_image(rt: &impl Print, s: &[u8], image: &mut [u8; 40000]) -> io::Result<()> {
+    count(rt, s, image)
 }
 
-fn read(fd: i32, text: &mut [u8]) {
-    let n = io::read_full(fd, text);
+fn with_text(rt: &impl Print, text: &[u8]) -> io::Result<()> {
     let mut image = [0u8; 40000];
-    with_image(&text[..n], &mut image);
+    with_image(rt, text, &mut image)
 }
 
-fn with_text(fd: i32, text: &mut [u8; 1000000]) {
-    read(fd, text);
+fn read<R: Files + Alloc>(rt: &R, path: &str) -> io::Result<Vec<u8, R::A>> {
+    fs::read(rt, path)
 }
 
-pub fn run() {
-    let mut path = io::buffer();
-    let length = os::arg(1, &mut path);
-    let fd = os::open_read(&path[..length]);
-    if fd < 0 {
-        os::fail(&path[..length]);
-        return;
+// The list is the file that the first argument names.
+pub fn run<R: Env + Files + Alloc + Print>(rt: &R) -> io::Result<()> {
+    match env::args(rt)?.nth(1) {
+        Some(path) => {
+            let text = read(rt, path.as_str())?;
+            with_text(rt, text.as_slice())
+        }
+        None => Err(io::Error::from(io::ErrorKind::InvalidInput)),
     }
-    let mut text = [0u8; 1000000];
-    with_text(fd, &mut text);
-    libc::close(fd);
 }

@@ -6,6 +6,8 @@ mod images;
 mod line;
 mod say;
 
-fn main() {
-    images::run();
+use std::io;
+
+fn main(rt: HostRuntime) -> io::Result<()> {
+    images::run(&rt)
 }
