@@ -16,7 +16,9 @@ pub extern "C" fn lir_fresh(
 ) -> u64
     ensures { gave result (lent registers.new answer.new store.new frames.new bounds.new pointers.new variables.new) ≡ fresh_called (lent registers.old answer.old store.old frames.old bounds.old pointers.old variables.old) }
 {
-    embed::entries::lir_fresh(registers, answer, store, frames, bounds, pointers, variables)
+    embed::entries::lir_fresh(
+        registers, answer, store, frames, bounds, pointers, variables,
+    )
 }
 
 // The function with this number begins, with a context and arguments as tags and bits.
@@ -38,7 +40,21 @@ pub extern "C" fn lir_start(
 ) -> u64
     ensures { gave result (lent registers.new answer.new store.new frames.new bounds.new pointers.new variables.new) ≡ start_called image.now function (found context_tag context_bits) tags.now bits.now (lent registers.old answer.old store.old frames.old bounds.old pointers.old variables.old) }
 {
-    embed::entries::lir_start(image, function, context_tag, context_bits, tags, bits, registers, answer, store, frames, bounds, pointers, variables)
+    embed::entries::lir_start(
+        image,
+        function,
+        context_tag,
+        context_bits,
+        tags,
+        bits,
+        registers,
+        answer,
+        store,
+        frames,
+        bounds,
+        pointers,
+        variables,
+    )
 }
 
 // One step.
@@ -55,7 +71,9 @@ pub extern "C" fn lir_step(
 ) -> u64
     ensures { gave result (lent registers.new answer.new store.new frames.new bounds.new pointers.new variables.new) ≡ step_called image.now (lent registers.old answer.old store.old frames.old bounds.old pointers.old variables.old) }
 {
-    embed::entries::lir_step(image, registers, answer, store, frames, bounds, pointers, variables)
+    embed::entries::lir_step(
+        image, registers, answer, store, frames, bounds, pointers, variables,
+    )
 }
 
 // Steps until the budget is spent, the run returns, or an instruction is refused.
@@ -73,5 +91,7 @@ pub extern "C" fn lir_run(
 ) -> u64
     ensures { gave result (lent registers.new answer.new store.new frames.new bounds.new pointers.new variables.new) ≡ run_called image.now budget (lent registers.old answer.old store.old frames.old bounds.old pointers.old variables.old) }
 {
-    embed::entries::lir_run(image, budget, registers, answer, store, frames, bounds, pointers, variables)
+    embed::entries::lir_run(
+        image, budget, registers, answer, store, frames, bounds, pointers, variables,
+    )
 }

@@ -17,7 +17,9 @@ pub extern "C" fn lir_allocate(
 ) -> u64
     ensures { gave result (lent registers.new answer.new store.new frames.new bounds.new pointers.new variables.now) ≡ allocate_called size (lent registers.old answer.old store.old frames.old bounds.old pointers.old variables.now) }
 {
-    embed::host::lir_allocate(size, registers, answer, store, frames, bounds, pointers, variables)
+    embed::host::lir_allocate(
+        size, registers, answer, store, frames, bounds, pointers, variables,
+    )
 }
 
 // Bytes written through a pointer.
@@ -34,7 +36,9 @@ pub extern "C" fn lir_write(
 ) -> u64
     ensures { both result store.new ≡ write_called pointer bytes.now registers.now store.old frames.now bounds.now pointers.now variables.now }
 {
-    embed::host::lir_write(pointer, bytes, registers, store, frames, bounds, pointers, variables)
+    embed::host::lir_write(
+        pointer, bytes, registers, store, frames, bounds, pointers, variables,
+    )
 }
 
 // As many bytes as the buffer holds, read through a pointer.
@@ -53,7 +57,9 @@ pub extern "C" fn lir_read(
 ) -> u64
     ensures { filled result answer.new bytes.new ≡ read_called image.now pointer bytes.old (lent registers.now answer.old store.now frames.now bounds.now pointers.now variables.now) }
 {
-    embed::host::lir_read(image, pointer, bytes, registers, answer, store, frames, bounds, pointers, variables)
+    embed::host::lir_read(
+        image, pointer, bytes, registers, answer, store, frames, bounds, pointers, variables,
+    )
 }
 
 // The live list, in four slices.
@@ -72,7 +78,9 @@ pub extern "C" fn lir_list(
 ) -> u64
     ensures { listed result live.new frame.new allocation.new offset.new ≡ list_called registers.now store.now frames.now bounds.now pointers.now variables.now live.old frame.old allocation.old offset.old }
 {
-    embed::host::lir_list(registers, store, frames, bounds, pointers, variables, live, frame, allocation, offset)
+    embed::host::lir_list(
+        registers, store, frames, bounds, pointers, variables, live, frame, allocation, offset,
+    )
 }
 
 // An image through its program back to bytes; how many is the answer's count.
