@@ -1,0 +1,10 @@
+-- `session::perform` meets its contract: the image, or the machine.
+use Rattle.console.proofs.Turning.{is-image, is-machine}
+use borrow.Author.Rules.{rules}
+use Rattle.console.proofs.session.perform.Goals as goal
+
+pub returns-then-asked-eq-IMAGE : goal.returns-then-asked-eq-IMAGE
+returns-then-asked-eq-IMAGE c = is-image _ _ _ _ _ _ _ _ c.if-asked-eq-IMAGE.true c.take_image-taken.ensures c.write_image_taken-text.ensures c.tell.ensures c.turn.ensures
+
+pub returns : goal.returns
+returns c = is-machine _ _ _ _ _ _ _ _ c.if-asked-eq-IMAGE.false c.within-n.ensures.value c.perform_on_machine-told.ensures c.turn-2.ensures
