@@ -18,8 +18,14 @@ fn usage(rt: &HostRuntime) {
         rt,
         b"usage: lir run IMAGE    run an image; the start line is the first line of standard input:\n",
     );
-    say::text(rt, b"                        FUNCTION BUDGET KIND BITS [KIND BITS]...\n");
-    say::text(rt, b"       lir check IMAGE  load an image, or say why it is refused\n");
+    say::text(
+        rt,
+        b"                        FUNCTION BUDGET KIND BITS [KIND BITS]...\n",
+    );
+    say::text(
+        rt,
+        b"       lir check IMAGE  load an image, or say why it is refused\n",
+    );
     say::text(
         rt,
         b"       lir console      the host's calls by hand, a command a line from standard input\n",
