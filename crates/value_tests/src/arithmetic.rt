@@ -1,6 +1,7 @@
 // Add, Sub, Mul, Div, Mod and Negate: 8 bits whole, and the ends of each width.
 use crate::{digest, edges, say};
 use operations::integer::{add, div, mul, negate, rem, sub};
+use std::io;
 use value::{Computed, IrType, IrValue, Made};
 
 fn compute(operation: u64, x: IrValue, y: IrValue) -> Computed {
@@ -52,42 +53,44 @@ fn ends(operation: u64, tag: u64) -> u64 {
     h
 }
 
-fn label(words: &[u8], operation: u64, tag: u64) {
-    say::text(words);
-    say::text(b" tag ");
-    say::number(tag);
-    say::text(b" operation ");
-    say::number(operation);
+fn label(rt: &impl Print, words: &str, operation: u64, tag: u64) -> io::Result<()> {
+    say::text(rt, words)?;
+    say::text(rt, " tag ")?;
+    say::number(rt, tag)?;
+    say::text(rt, " operation ")?;
+    say::number(rt, operation)
 }
 
-fn print_whole(operation: u64, tag: u64) {
-    label(b"8 bits whole:", operation, tag);
-    say::digest(whole(operation, tag));
+fn print_whole(rt: &impl Print, operation: u64, tag: u64) -> io::Result<()> {
+    label(rt, "8 bits whole:", operation, tag)?;
+    say::digest(rt, whole(operation, tag))
 }
 
-fn print_ends(operation: u64, tag: u64) {
-    label(b"ends:", operation, tag);
-    say::digest(ends(operation, tag));
+fn print_ends(rt: &impl Print, operation: u64, tag: u64) -> io::Result<()> {
+    label(rt, "ends:", operation, tag)?;
+    say::digest(rt, ends(operation, tag))
 }
 
-fn print_all_whole() {
+fn print_all_whole(rt: &impl Print) -> io::Result<()> {
     let mut operation = 0u64;
     while operation < 6 {
-        print_whole(operation, IrType::U8_TAG);
-        print_whole(operation, IrType::I8_TAG);
+        print_whole(rt, operation, IrType::U8_TAG)?;
+        print_whole(rt, operation, IrType::I8_TAG)?;
         operation += 1;
     }
+    Ok(())
 }
 
-fn print_all_ends() {
+fn print_all_ends(rt: &impl Print) -> io::Result<()> {
     let mut n = 0u64;
     while n < 48 {
-        print_ends(n % 6, n / 6 + 2);
+        print_ends(rt, n % 6, n / 6 + 2)?;
         n += 1;
     }
+    Ok(())
 }
 
-pub fn run() {
-    print_all_whole();
-    print_all_ends();
+pub fn run(rt: &impl Print) -> io::Result<()> {
+    print_all_whole(rt)?;
+    print_all_ends(rt)
 }

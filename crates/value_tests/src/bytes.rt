@@ -1,5 +1,6 @@
 // Every kind's edges to bytes and back.
 use crate::{digest, edges, say};
+use std::io;
 use value::{IrType, IrValue, Loaded, Made, Tagged};
 
 fn wide(byte: u8) -> u64 {
@@ -77,14 +78,14 @@ fn truths() -> u64 {
     h
 }
 
-pub fn run() {
+pub fn run(rt: &impl Print) -> io::Result<()> {
     let mut tag = IrType::BOOL_TAG;
     while tag <= IrType::POINTER_TAG {
-        say::text(b"bytes of tag ");
-        say::number(tag);
-        say::digest(kind(tag));
+        say::text(rt, "bytes of tag ")?;
+        say::number(rt, tag)?;
+        say::digest(rt, kind(tag))?;
         tag += 1;
     }
-    say::text(b"Bool from each byte");
-    say::digest(truths());
+    say::text(rt, "Bool from each byte")?;
+    say::digest(rt, truths())
 }

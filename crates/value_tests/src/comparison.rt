@@ -1,6 +1,7 @@
 // The ten comparisons of integers, over the edges of every pair of kinds.
 use crate::{digest, edges, say};
 use comparing::compare::int_cmp;
+use std::io;
 use value::{IntCmp, IntComparison, IrValue, Made};
 
 fn answer(h: u64, number: u64, x: Made, y: Made) -> u64 {
@@ -40,12 +41,13 @@ fn kinds(number: u64) -> u64 {
     h
 }
 
-pub fn run() {
+pub fn run(rt: &impl Print) -> io::Result<()> {
     let mut number = 0u64;
     while number < 11 {
-        say::text(b"comparison ");
-        say::number(number);
-        say::digest(kinds(number));
+        say::text(rt, "comparison ")?;
+        say::number(rt, number)?;
+        say::digest(rt, kinds(number))?;
         number += 1;
     }
+    Ok(())
 }

@@ -1,6 +1,8 @@
 // The lists of answers, a file each: how many of the lines are right, and which are not.
 use crate::line::Line;
 use crate::{floats, kinds, line, say};
+use std::rt::{Env, Files};
+use std::{env, fs, io};
 
 // Which argument names each list's file.
 const FLOATS: u64 = 1;
@@ -16,27 +18,27 @@ fn agrees(list: u64, line: Line) -> bool {
     }
 }
 
-fn label(list: u64) {
+fn label(rt: &impl Print, list: u64) -> io::Result<()> {
     match list {
-        FLOATS => say::text(b"float vectors "),
-        KINDS => say::text(b"kinds "),
-        _ => say::text(b"rounding "),
+        FLOATS => say::text(rt, "float vectors "),
+        KINDS => say::text(rt, "kinds "),
+        _ => say::text(rt, "rounding "),
     }
 }
 
 // A wrong line is printed by its number.
-fn judged(list: u64, line: Line, number: u64) -> u64 {
+fn judged(rt: &impl Print, list: u64, line: Line, number: u64) -> io::Result<u64> {
     if agrees(list, line) {
-        return 1;
+        return Ok(1);
     }
-    say::text(b"wrong: line ");
-    say::number(number);
-    say::text(b"\n");
-    0
+    say::text(rt, "wrong: line ")?;
+    say::number(rt, number)?;
+    say::text(rt, "\n")?;
+    Ok(0)
 }
 
 // How many of the lines agree.
-fn count(list: u64, s: &[u8]) {
+fn count(rt: &impl Print, list: u64, s: &[u8]) -> io::Result<()> {
     let mut line = line::fresh();
     let mut lines = 0u64;
     let mut right = 0u64;
@@ -44,44 +46,38 @@ fn count(list: u64, s: &[u8]) {
     while i < s.len() {
         if s[i] == b'\n' {
             lines = std::num::wrapping_add_u64(lines, 1);
-            right = std::num::wrapping_add_u64(right, judged(list, line, lines));
+            right = std::num::wrapping_add_u64(right, judged(rt, list, line, lines)?);
             line = line::fresh();
         } else {
             line = line::next(line, s[i]);
         }
         i += 1;
     }
-    label(list);
-    say::number(right);
-    say::text(b" right of ");
-    say::number(lines);
-    say::text(b"\n");
+    label(rt, list)?;
+    say::number(rt, right)?;
+    say::text(rt, " right of ")?;
+    say::number(rt, lines)?;
+    say::text(rt, "\n")
 }
 
-fn read(list: u64, fd: i32, text: &mut [u8]) {
-    let n = io::read_full(fd, text);
-    count(list, &text[..n]);
+fn read<R: Files + Alloc>(rt: &R, path: &str) -> io::Result<Vec<u8, R::A>> {
+    fs::read(rt, path)
 }
 
-fn load(list: u64, fd: i32, text: &mut [u8; 600000]) {
-    read(list, fd, text);
+fn load<R: Files + Alloc + Print>(rt: &R, list: u64, path: &str) -> io::Result<()> {
+    let text = read(rt, path)?;
+    count(rt, list, text.as_slice())
 }
 
-fn open(list: u64, text: &mut [u8; 600000]) {
-    let mut path = io::buffer();
-    let length = os::arg(list as usize, &mut path);
-    let fd = os::open_read(&path[..length]);
-    if fd < 0 {
-        os::fail(&path[..length]);
-        return;
+fn open<R: Env + Files + Alloc + Print>(rt: &R, list: u64) -> io::Result<()> {
+    match env::args(rt)?.nth(list as usize) {
+        Some(path) => load(rt, list, path.as_str()),
+        None => Err(io::Error::from(io::ErrorKind::InvalidInput)),
     }
-    load(list, fd, text);
-    libc::close(fd);
 }
 
-pub fn run() {
-    let mut text = [0u8; 600000];
-    open(FLOATS, &mut text);
-    open(KINDS, &mut text);
-    open(ROUNDING, &mut text);
+pub fn run<R: Env + Files + Alloc + Print>(rt: &R) -> io::Result<()> {
+    open(rt, FLOATS)?;
+    open(rt, KINDS)?;
+    open(rt, ROUNDING)
 }

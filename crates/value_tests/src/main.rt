@@ -14,9 +14,11 @@ mod line;
 mod lists;
 mod say;
 
-fn main() {
-    lists::run();
-    arithmetic::run();
-    comparison::run();
-    bytes::run();
+use std::io;
+
+fn main(rt: HostRuntime) -> io::Result<()> {
+    lists::run(&rt)?;
+    arithmetic::run(&rt)?;
+    comparison::run(&rt)?;
+    bytes::run(&rt)
 }

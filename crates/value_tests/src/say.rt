@@ -1,17 +1,15 @@
 // Lines of standard output.
-use libc::STDOUT_FILENO;
+use std::io;
 
-pub fn text(words: &[u8]) {
-    io::write_all(STDOUT_FILENO, words);
+pub fn text(rt: &impl Print, words: &str) -> io::Result<()> {
+    print!(rt; "{words}")
 }
 
-pub fn number(n: u64) {
-    io::print_decimal(STDOUT_FILENO, n);
+pub fn number(rt: &impl Print, n: u64) -> io::Result<()> {
+    print!(rt; "{n}")
 }
 
 // The end of a line: a digest.
-pub fn digest(h: u64) {
-    io::write_all(STDOUT_FILENO, b" digest ");
-    io::print_hex(STDOUT_FILENO, h, 8);
-    io::write_all(STDOUT_FILENO, b"\n");
+pub fn digest(rt: &impl Print, h: u64) -> io::Result<()> {
+    println!(rt; " digest {h:08x}")
 }
