@@ -6,7 +6,7 @@ use mathlib.Core.List.{List}
 use lib.ListN.{length}
 use lib.Dec.{leb, eqb}
 use borrow.Author.Tests.{le-leb, leb-true, eq-eqb, eqb-true}
-use Rattle.memory.specs.Tables.{Tables, registers, State, state, memory_ok, registers_ok, variable_ok, every, sound_of}
+use Rattle.memory.specs.Tables.{Tables, State, state, memory_ok, registers_ok, variable_ok, every, sound_of}
 use Rattle.memory.proofs.Every.{every-at, every-all}
 use Rattle.memory.proofs.Facts.{Sound, sound-of, sound_test}
 use Rattle.agree.specs.Seen.{Runs}

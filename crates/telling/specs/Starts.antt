@@ -1,5 +1,5 @@
 -- "`start FUNCTION KIND BITS [KIND BITS]...`": a start from a line's values; and a line that cannot be read.
-use Rattle.std.specs.Prelude.{ℕ, ◌+◌, ◌-◌, ◌%◌, ◌^◌, min, List, length, replicate, slice_index, slice_range}
+use Rattle.std.specs.Prelude.{ℕ, ◌+◌, ◌%◌, ◌^◌, min, List, length, replicate, slice_index, slice_range}
 use Rattle.answers.specs.Lines.{Pieces, cannot_read_line}
 use Rattle.memory.specs.Tables.{State}
 use Rattle.instruction.specs.declared.variables.Found.{Found}

@@ -1,6 +1,5 @@
 -- `changing::change` meets its contract: command by command.
 use Rattle.console.proofs.Turning.{is-fresh, is-allocate, is-write, is-poke}
-use borrow.Author.Rules.{rules}
 use Rattle.console.proofs.changing.change.Goals as goal
 
 pub returns-in-1 : goal.returns-in-1

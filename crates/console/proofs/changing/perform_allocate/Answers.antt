@@ -1,7 +1,6 @@
 -- `changing::perform_allocate` meets its contract: what was given is told.
 use mathlib.Core.Path.{refl}
 use Rattle.console.proofs.Turning.{allocate-tells}
-use borrow.Author.Rules.{rules}
 use Rattle.console.proofs.changing.perform_allocate.Goals as goal
 
 pub returns : goal.returns

@@ -1,6 +1,5 @@
 -- `changing::perform_fresh` meets its contract: what was made is told.
 use Rattle.console.proofs.Turning.{fresh-tells}
-use borrow.Author.Rules.{rules}
 use Rattle.console.proofs.changing.perform_fresh.Goals as goal
 
 pub returns : goal.returns

@@ -1,6 +1,5 @@
 -- `changing::perform_poke` meets its contract: the words that were poked are told.
 use Rattle.console.proofs.Turning.{poke-tells}
-use borrow.Author.Rules.{rules}
 use Rattle.console.proofs.changing.perform_poke.Goals as goal
 
 pub returns : goal.returns

@@ -1,6 +1,5 @@
 -- `changing::perform_write` meets its contract: what was written is told.
 use Rattle.console.proofs.Turning.{write-tells}
-use borrow.Author.Rules.{rules}
 use Rattle.console.proofs.changing.perform_write.Goals as goal
 
 pub returns : goal.returns

@@ -1,6 +1,5 @@
 -- `looking::look` meets its contract: command by command.
 use Rattle.console.proofs.Turning.{is-reading, is_live, is-rewrite, is-dump}
-use borrow.Author.Rules.{rules}
 use Rattle.console.proofs.looking.look.Goals as goal
 
 pub returns-in-4 : goal.returns-in-4

@@ -1,6 +1,5 @@
 -- `looking::look_rewrite` meets its contract: the buffer has as much room as was asked.
 use Rattle.console.proofs.Turning.{rewrite-shown}
-use borrow.Author.Rules.{rules}
 use Rattle.console.proofs.looking.look_rewrite.Goals as goal
 
 pub returns : goal.returns

@@ -1,6 +1,5 @@
 -- `running::perform_run` meets its contract: the run is told.
 use Rattle.console.proofs.Turning.{run-tells}
-use borrow.Author.Rules.{rules}
 use Rattle.console.proofs.running.perform_run.Goals as goal
 
 pub returns : goal.returns

@@ -1,6 +1,5 @@
 -- `running::perform_running` meets its contract: command by command.
 use Rattle.console.proofs.Turning.{is-start, is-step, is-run}
-use borrow.Author.Rules.{rules}
 use Rattle.console.proofs.running.perform_running.Goals as goal
 
 pub returns-in-5 : goal.returns-in-5

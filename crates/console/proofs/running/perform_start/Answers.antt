@@ -1,6 +1,5 @@
 -- `running::perform_start` meets its contract: what was begun is told.
 use Rattle.console.proofs.Turning.{start-tells}
-use borrow.Author.Rules.{rules}
 use Rattle.console.proofs.running.perform_start.Goals as goal
 
 pub returns : goal.returns

@@ -1,6 +1,5 @@
 -- `running::perform_step` meets its contract: the step is told.
 use Rattle.console.proofs.Turning.{step-tells}
-use borrow.Author.Rules.{rules}
 use Rattle.console.proofs.running.perform_step.Goals as goal
 
 pub returns : goal.returns

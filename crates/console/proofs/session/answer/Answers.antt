@@ -1,6 +1,5 @@
 -- `session::answer` meets its contract: too long, or read.
 use Rattle.console.proofs.Turning.{is-long, is-line}
-use borrow.Author.Rules.{rules}
 use Rattle.console.proofs.session.answer.Goals as goal
 
 pub returns-then-line-gt-LONGEST : goal.returns-then-line-gt-LONGEST

@@ -1,6 +1,5 @@
 -- `session::answer_read` meets its contract: what was read is done.
 use Rattle.console.proofs.Turning.{is_unread, is_read}
-use borrow.Author.Rules.{rules}
 use Rattle.console.proofs.session.answer_read.Goals as goal
 
 pub returns-then-asked-ne0 : goal.returns-then-asked-ne0

@@ -1,6 +1,5 @@
 -- `session::perform` meets its contract: the image, or the machine.
 use Rattle.console.proofs.Turning.{is-image, is-machine}
-use borrow.Author.Rules.{rules}
 use Rattle.console.proofs.session.perform.Goals as goal
 
 pub returns-then-asked-eq-IMAGE : goal.returns-then-asked-eq-IMAGE

@@ -1,6 +1,5 @@
 -- `session::take_image` meets its contract: the bytes that have room stand at the start.
 use Rattle.console.proofs.Turning.{image-put}
-use borrow.Author.Rules.{rules}
 use Rattle.console.proofs.session.take_image.Goals as goal
 
 pub returns : goal.returns

@@ -1,9 +1,7 @@
 -- `entries::lir_run` meets its contract: the lengths are wrong, or the entry is called and its answer told in words.
 use mathlib.Core.Path.{sym, ◌∙◌}
-use borrow.Author.Tests.{not-true, not-false}
 use Rattle.embed.proofs.Laws.{unshaped, run-gives}
 use Rattle.embed.specs.Called.{run_called}
-use borrow.Author.Rules.{rules}
 use Rattle.embed.proofs.entries.lir_run.Goals as goal
 
 pub returns-then-not-shaped : goal.returns-then-not-shaped

@@ -1,9 +1,7 @@
 -- `entries::lir_start` meets its contract: the lengths are wrong, or the entry is called and its answer told in words.
 use mathlib.Core.Path.{sym, ◌∙◌}
-use borrow.Author.Tests.{not-true, not-false}
 use Rattle.embed.proofs.Laws.{unshaped, start_gives}
 use Rattle.embed.specs.Called.{start_called}
-use borrow.Author.Rules.{rules}
 use Rattle.embed.proofs.entries.lir_start.Goals as goal
 
 pub returns-then-not-shaped : goal.returns-then-not-shaped

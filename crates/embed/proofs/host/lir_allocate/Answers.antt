@@ -1,9 +1,7 @@
 -- `host::lir_allocate` meets its contract: the lengths are wrong, or the entry is called and its answer told in words.
 use mathlib.Core.Path.{refl, sym, ◌∙◌}
-use borrow.Author.Tests.{not-true, not-false}
 use Rattle.embed.proofs.Laws.{unshaped, allocate-gives}
 use Rattle.embed.specs.Called.{allocate_called}
-use borrow.Author.Rules.{rules}
 use Rattle.embed.proofs.host.lir_allocate.Goals as goal
 
 pub returns-then-not-shaped : goal.returns-then-not-shaped

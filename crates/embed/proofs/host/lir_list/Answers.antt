@@ -1,6 +1,5 @@
 -- `host::lir_list` meets its contract: the registers have a wrong length, or the list answers.
 use Rattle.embed.proofs.Laws.{list_unshaped, list_gives}
-use borrow.Author.Rules.{rules}
 use Rattle.embed.proofs.host.lir_list.Goals as goal
 
 pub returns-then-registers-ne-REGISTERS : goal.returns-then-registers-ne-REGISTERS

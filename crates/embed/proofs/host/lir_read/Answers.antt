@@ -1,8 +1,6 @@
 -- `host::lir_read` meets its contract: the lengths are wrong, or the read is answered in words.
 use mathlib.Core.Path.{sym, ◌∙◌}
-use borrow.Author.Tests.{not-true, not-false}
 use Rattle.embed.proofs.Laws.{read_unshaped, read-gives}
-use borrow.Author.Rules.{rules}
 use Rattle.embed.proofs.host.lir_read.Goals as goal
 
 pub returns-then-not-shaped : goal.returns-then-not-shaped

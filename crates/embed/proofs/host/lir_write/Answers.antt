@@ -1,6 +1,5 @@
 -- `host::lir_write` meets its contract: the registers have a wrong length, or the write answers.
 use Rattle.embed.proofs.Laws.{write_unshaped, write-gives}
-use borrow.Author.Rules.{rules}
 use Rattle.embed.proofs.host.lir_write.Goals as goal
 
 pub returns-then-registers-ne-REGISTERS : goal.returns-then-registers-ne-REGISTERS

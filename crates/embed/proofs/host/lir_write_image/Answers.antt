@@ -1,6 +1,5 @@
 -- `host::lir_write_image` meets its contract: no room for the answer, or what the writer answers.
 use Rattle.embed.proofs.Laws.{image_unshaped, image-gives}
-use borrow.Author.Rules.{rules}
 use Rattle.embed.proofs.host.lir_write_image.Goals as goal
 
 pub returns-then-answer-ne-ANSWER : goal.returns-then-answer-ne-ANSWER

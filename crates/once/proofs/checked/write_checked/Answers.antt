@@ -1,6 +1,5 @@
 -- `checked::write_checked` meets its contract: what the header's reader refuses, loading refuses.
 use Rattle.once.proofs.Checking.{header_refused}
-use borrow.Author.Rules.{rules}
 use Rattle.once.proofs.checked.write_checked.Goals as goal
 
 pub returns-in-Refused : goal.returns-in-Refused

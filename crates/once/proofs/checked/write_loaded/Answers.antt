@@ -1,6 +1,5 @@
 -- `checked::write_loaded` meets its contract: refused, or taken.
 use Rattle.once.proofs.Checking.{loaded-refused, loaded-taken}
-use borrow.Author.Rules.{rules}
 use Rattle.once.proofs.checked.write_loaded.Goals as goal
 
 pub returns-in-Stop : goal.returns-in-Stop

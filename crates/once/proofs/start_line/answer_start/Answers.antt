@@ -1,7 +1,6 @@
 -- `start_line::answer_start` meets its contract: too long, not read, or run.
 use mathlib.Core.Path.{refl}
 use Rattle.once.proofs.Starting.{start-long, start_unread, start-runs}
-use borrow.Author.Rules.{rules}
 use Rattle.once.proofs.start_line.answer_start.Goals as goal
 
 pub returns-then-line-gt-LONGEST : goal.returns-then-line-gt-LONGEST

@@ -1,6 +1,5 @@
 -- `start_line::run_fresh` meets its contract: on the memory that was made.
 use Rattle.once.proofs.Starting.{made-runs, unmade-stays}
-use borrow.Author.Rules.{rules}
 use Rattle.once.proofs.start_line.run_fresh.Goals as goal
 
 pub returns-in-Done : goal.returns-in-Done

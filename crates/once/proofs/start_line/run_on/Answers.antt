@@ -1,6 +1,5 @@
 -- `start_line::run_on` meets its contract: the start, and the run that follows.
 use Rattle.once.proofs.Starting.{begun-runs}
-use borrow.Author.Rules.{rules}
 use Rattle.once.proofs.start_line.run_on.Goals as goal
 
 pub returns : goal.returns

@@ -1,8 +1,5 @@
 -- `words::put_registers` meets its contract: five words, or none.
-use native.Mathlib.Omega.{arith}
-use lib.ListN.{length-set}
 use Rattle.replies.proofs.Laws.{registers-put, registers-kept}
-use borrow.Author.Rules.{rules}
 use Rattle.replies.proofs.words.put_registers.Goals as goal
 
 pub returns-then-words-eq-REGISTERS : goal.returns-then-words-eq-REGISTERS

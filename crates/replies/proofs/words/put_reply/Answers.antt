@@ -1,6 +1,5 @@
 -- `words::put_reply` meets its contract: four words, or none.
 use Rattle.replies.proofs.Laws.{reply-put, reply-kept}
-use borrow.Author.Rules.{rules}
 use Rattle.replies.proofs.words.put_reply.Goals as goal
 
 pub returns-then-words-eq-ANSWER : goal.returns-then-words-eq-ANSWER

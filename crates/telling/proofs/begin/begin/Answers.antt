@@ -1,6 +1,5 @@
 -- `begin::begin` meets its contract: the first value is the context, and the others are the arguments.
 use Rattle.telling.proofs.Starting.{begins}
-use Rattle.std.proofs.Common.{rules}
 use Rattle.telling.proofs.begin.begin.Goals as goal
 
 pub returns : goal.returns

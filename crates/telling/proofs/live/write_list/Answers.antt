@@ -1,6 +1,5 @@
 -- `live::write_list` meets its contract: the count, the records, and the end.
 use Rattle.telling.proofs.Listing.{list_told}
-use Rattle.std.proofs.Common.{rules}
 use Rattle.telling.proofs.live.write_list.Goals as goal
 
 pub returns : goal.returns

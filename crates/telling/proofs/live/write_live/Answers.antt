@@ -1,7 +1,6 @@
 -- `live::write_live` meets its contract: the columns have as much room as was asked.
 use Rattle.telling.proofs.Listing.{live-told}
 use Rattle.telling.specs.Listed.{live_line_of}
-use Rattle.std.proofs.Common.{rules}
 use Rattle.telling.proofs.live.write_live.Goals as goal
 
 pub returns : goal.returns

@@ -1,6 +1,5 @@
 -- `live::write_record_at` meets its contract: the four words of the record.
 use Rattle.telling.proofs.Listing.{record_told}
-use Rattle.std.proofs.Common.{rules}
 use Rattle.telling.proofs.live.write_record_at.Goals as goal
 
 pub returns : goal.returns

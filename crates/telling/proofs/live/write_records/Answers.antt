@@ -1,9 +1,6 @@
 -- `live::write_records` meets its contract: the records that are left, put after those that are, are all of them.
-use Rattle.std.proofs.Common.{◌≡◌, ◌-◌, length, refl, ◌∙◌, arith, rules}
-use Rattle.words.specs.Text.{text, puts}
-use Rattle.by_hand.specs.State.{each}
-use Rattle.telling.specs.Listed.{record_at}
-use Rattle.by_hand.proofs.Showing.{each_start, more-each, no_more_each}
+use Rattle.std.proofs.Common.{arith}
+use Rattle.by_hand.proofs.Showing.{more-each, no_more_each}
 use Rattle.telling.proofs.live.write_records.Goals as goal
 
 pub loop-p-preserved : goal.loop-p-preserved

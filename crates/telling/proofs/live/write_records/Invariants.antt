@@ -1,9 +1,8 @@
 -- `live::write_records` meets its contract: the records that are left, put after those that are, are all of them.
-use Rattle.std.proofs.Common.{◌≡◌, ◌-◌, length, refl, ◌∙◌, arith, rules}
+use Rattle.std.proofs.Common.{◌≡◌, ◌-◌, length}
 use Rattle.words.specs.Text.{text, puts}
 use Rattle.by_hand.specs.State.{each}
 use Rattle.telling.specs.Listed.{record_at}
-use Rattle.by_hand.proofs.Showing.{each_start, more-each, no_more_each}
 use Rattle.telling.proofs.live.write_records.Given as goal
 
 abbrev pub invariant-loop-p : goal.invariant-loop-p
