@@ -1,4 +1,4 @@
-// The entries of the evaluator as C functions: link target/staticlib/libembed.a, which `rt staticlib embed` writes, for x86-64 Linux.
+// The entries of the evaluator as C functions: link target/staticlib/libembed.a, which `bindings/library` writes, for x86-64 Linux.
 //
 // A slice is a pointer and a count of its elements; a count of 0 goes with any pointer that is aligned and not null.
 // Every length is tested: no call reaches past what it was lent. Slices that are written must not overlap any other.

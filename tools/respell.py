@@ -140,9 +140,10 @@ def main():
     for path in sorted(glob.glob("crates/*/src/**/*.rt", recursive=True)):
         text = open(path, encoding="utf-8").read()
         open(path, "w", encoding="utf-8").write(turn_clauses(text, plain))
+    named = {n: o for n, o in new.items() if "-" in n or not o.endswith("_lem")}
     for path in sorted(glob.glob("*.md") + glob.glob("docs/*.md") + glob.glob("*/README.md")):
         text = open(path, encoding="utf-8").read()
-        open(path, "w", encoding="utf-8").write(re.sub(r"`[^`\n]+`", lambda m: turn(m.group(0), new, False), text))
+        open(path, "w", encoding="utf-8").write(re.sub(r"`[^`\n]+`", lambda m: turn(m.group(0), named, False), text))
 
 
 main()
