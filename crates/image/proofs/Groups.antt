@@ -11,7 +11,7 @@ use lib.ListN.{length, get_or}
 use borrow.Author.Tests.{le-leb, lt-leb, lt-ltb, le-ltb, eq-eqb, ne_eqb}
 use Rattle.image.specs.Parse.{took, refused}
 use Rattle.value.specs.Answer.{pick}
-use Rattle.image.specs.Number.{groups}
+use Rattle.image.specs.Number.{number, groups}
 
 module _ (start w sum : ℕ) (s : List ℕ) (at : ℕ) where
   pub out : (left : ℕ) → length s ≤ at → groups left start w sum s at ≡ refused 1 start
@@ -79,3 +79,7 @@ group_fits {b} w h g = omega (arith, mul-le-mul_right w (b_le h))
   where
     b_le : {b : ℕ} → b < 128 → b ≤ 127
     b_le h = omega arith
+
+-- a number whose last group is 0 and not the tenth is not in the shortest form
+pub padded_number : (image : List ℕ) (start left w sum at b : ℕ) → number image start ≡ groups left start w sum image at → 0 < left → at < length image → b ≡ get_or image at 0 → left < 9 → b ≡ 0 → refused 2 start ≡ number image start
+padded_number image start left w sum at b n p h e q z = sym (n ∙ padded' start w sum image at b e left p h q z)

@@ -153,6 +153,7 @@ pub fn raw_after(image: &[u8], c: Step, count: usize) -> Step
 }
 
 // The image's end.
+#[tactic(auto, using(std::proofs::lemmas::Bool::Decides::nat_tests), unfolding(crate::specs::Fields::at_end))]
 pub fn end_after(image: &[u8], c: Step) -> Step
     ensures { result ≡ walk (at_end image.now) c }
 {

@@ -19,6 +19,7 @@ fn wide(x: u8) -> u64
 }
 
 // The number at `start`.
+#[tactic(auto, using(crate::proofs::Groups::padded_number))]
 pub fn read_number(image: &[u8], start: usize) -> Number
     ensures { got result ≡ number image.now start }
 {

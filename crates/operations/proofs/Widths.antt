@@ -258,3 +258,7 @@ module _ {w : Width} {k : Kind} {con : ℤ → IrValue} (s : Signs w k con) (a b
         ∙ sign_holds s (rem_z a b) remainder_fits
         ∙ sym (passes_on k (quot_z a b) (checked k (rem_z a b)) (within-is s (quot_z a b) ∙ lt-ltb _ _ quotient_fits.sfits))
         ∙ sym (remains k a b (nonzero w b B n))
+
+-- the least number of 32 bits over -1, where a test on the way names them by their bits
+pub least_32 : (a b : ℤ) → SFits w32 a → SFits w32 b → of_z w32 b ≡ 4294967295 → of_z w32 a ≡ 2147483648 → C.Refused outside_width ≡ computed (operate Believed.div i32 a b)
+least_32 a b A B e f = div-least i32-is a b A B e f

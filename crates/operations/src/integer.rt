@@ -540,6 +540,7 @@ fn div_i16(a: i16, b: i16) -> Computed
     Computed::Value(IrValue::I16(a / b))
 }
 
+#[tactic(auto, using(crate::proofs::Widths::least_32))]
 fn div_i32(a: i32, b: i32) -> Computed
     ensures { result ≡ computed (operate Believed.div Believed.i32 a b) }
 {

@@ -106,6 +106,7 @@ impl IrValue {
 }
 
 // A Char is 0 to D7FF or E000 to 10FFFF.
+#[tactic(auto, using(std::proofs::lemmas::Bool::Decides::nat_tests), unfolding(crate::specs::Value::is_scalar))]
 fn is_scalar(bits: u64) -> bool
     ensures { result ≡ is_scalar bits }
 {

@@ -37,6 +37,7 @@ fn read_digits(word: &[u8]) -> Read
 }
 
 // The number that a word says.
+#[tactic(auto, using(crate::proofs::Digits::none_led, crate::proofs::Digits::zero_led, crate::proofs::Digits::one_led, crate::proofs::Digits::more_led))]
 pub fn read_number(word: &[u8]) -> Read
     ensures { result ≡ number word.now }
 {

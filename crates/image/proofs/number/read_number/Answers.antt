@@ -2,10 +2,10 @@
 use Prim.Native.Nat.{◌≤◌, ◌-◌, ◌*◌}
 use native.Mathlib.Omega.{arith}
 use mathlib.Core.Path.{◌≡◌, refl, sym, ◌∙◌}
+use borrow.Author.Rules.{rules}
 use Rattle.image.specs.Number.{number}
-use Rattle.image.proofs.Groups.{out, last_one, last-bad, more', padded', ends', lighter, light, group_fits}
+use Rattle.image.proofs.Groups.{out, last_one, last-bad, more', ends', lighter, light, group_fits}
 use Rattle.image.proofs.number.read_number.Goals as goal
-use Rattle.image.proofs.number.read_number.Goals.{then-b-eq0+else-left-lt9, else-b-eq0}
 
 pub loop-left-init : goal.loop-left-init
 unfolding number
@@ -16,13 +16,6 @@ returns-then-image-at c =
     let a = c.args in
     let l = c.loop-left in
     sym (l.invariant.0 ∙ out a.start l.weight l.sum a.image.now l.at l.left c.if-image-at.true)
-
-pub returns-then-left-lt9 : goal.returns-then-left-lt9
-returns-then-left-lt9 c =
-    let a = c.args in
-    let l = c.loop-left in
-    let w = c.wide-b in
-    sym (l.invariant.0 ∙ padded' a.start l.weight l.sum a.image.now l.at w.result w.ensures l.left (omega arith) (omega arith) c.if-left-lt9.true c.if-b-eq0.true)
 
 pub overflow_mul-result : goal.overflow_mul-result
 overflow_mul-result c =
@@ -39,7 +32,7 @@ returns-then-b-lt128 c =
     let a = c.args in
     let l = c.loop-left in
     let w = c.wide-b in
-    let z : w.result ≡ 0 → 9 ≤ l.left = λ e. elim c.if-b-eq0.branch [ then-b-eq0+else-left-lt9 w ↦ w.if-left-lt9.false | else-b-eq0 w ↦ absurd (w.if-b-eq0.false e) ] in
+    let z : w.result ≡ 0 → 9 ≤ l.left = λ e. search rules in
     sym (l.invariant.0 ∙ ends' a.start l.weight l.sum a.image.now l.at w.result w.ensures l.left (omega arith) (omega arith) (omega arith) z)
 
 pub overflow_mul-sum : goal.overflow_mul-sum

@@ -1,13 +1,10 @@
 -- `div_i32`: the machine's quotient at 32 bits, by the law over the width.
-use Rattle.operations.proofs.Widths.{i32-is, div_zero, div-least, div_is}
+use Rattle.std.proofs.Common.{rules}
+use Rattle.operations.proofs.Widths.{i32-is, div_zero, div_is}
 use Rattle.operations.proofs.integer.div_i32.Goals as goal
-use Rattle.operations.proofs.integer.div_i32.Goals.{then-b-eqminus1+else-a-eqminus2147483648, else-b-eqminus1}
 
 pub returns-then-b-eq0 : goal.returns-then-b-eq0
 returns-then-b-eq0 c = div_zero i32-is _ _ c.ranges.a c.ranges.b c.if-b-eq0.true
 
-pub returns-then-a-eqminus2147483648 : goal.returns-then-a-eqminus2147483648
-returns-then-a-eqminus2147483648 c = let F = c.ranges in div-least i32-is _ _ F.a F.b c.if-b-eqminus1.true c.if-a-eqminus2147483648.true
-
 pub returns : goal.returns
-returns c = let F = c.ranges in div_is i32-is _ _ F.a F.b c.if-b-eq0.false (λ e f. elim c.if-b-eqminus1.branch [ then-b-eqminus1+else-a-eqminus2147483648 w ↦ w.if-a-eqminus2147483648.false f | else-b-eqminus1 w ↦ w.if-b-eqminus1.false e ])
+returns c = let F = c.ranges in div_is i32-is _ _ F.a F.b c.if-b-eq0.false (λ e f. search rules)
