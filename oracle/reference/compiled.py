@@ -1,5 +1,6 @@
 """Builds C programs over the evaluator's C functions, for x86-64 Linux."""
 
+import hashlib
 import os
 import shutil
 import subprocess
@@ -24,27 +25,33 @@ def reached(name):
     return found
 
 
-def is_current():
-    """Whether the archive is younger than every file that it is built from."""
-    if not os.path.exists(MADE):
-        return False
-    made = os.path.getmtime(MADE)
-    for crate in reached("embed_c"):
-        for part in ("src", "specs", "proofs"):
-            for folder, _, names in os.walk(os.path.join(ROOT, "crates", crate, part)):
-                if any(os.path.getmtime(os.path.join(folder, name)) > made for name in names):
-                    return False
-    return True
+def digest():
+    """A digest of all that the library is built from."""
+    whole = hashlib.sha256(subprocess.run(["rt", "version"], capture_output=True, check=True).stdout)
+    for crate in sorted(reached("embed_c")):
+        for folder, folders, names in os.walk(os.path.join(ROOT, "crates", crate)):
+            folders[:] = sorted(one for one in folders if one != "out")
+            for name in sorted(names):
+                path = os.path.join(folder, name)
+                with open(path, "rb") as file:
+                    whole.update(f"{os.path.relpath(path, ROOT)}\n".encode() + hashlib.sha256(file.read()).digest())
+    return whole.hexdigest()
 
 
 def library():
     """The archive of the proved evaluator, proved and built again where a file of it has changed."""
-    if not is_current():
-        made = subprocess.run(["rt", "lib"], cwd=os.path.join(ROOT, "crates", "embed_c"), capture_output=True, text=True)
-        if made.returncode:
-            sys.exit(made.stdout + made.stderr)
+    now, note = digest(), LIBRARY + ".from"
+    if os.path.exists(LIBRARY) and os.path.exists(note):
+        with open(note, encoding="ascii") as kept:
+            if kept.read() == now:
+                return LIBRARY
+    made = subprocess.run(["rt", "lib"], cwd=os.path.join(ROOT, "crates", "embed_c"), capture_output=True, text=True)
+    if made.returncode:
+        sys.exit(made.stdout + made.stderr)
     os.makedirs(os.path.dirname(LIBRARY), exist_ok=True)
     shutil.copy(MADE, LIBRARY)
+    with open(note, "w", encoding="ascii") as kept:
+        kept.write(now)
     return LIBRARY
 
 
