@@ -1,5 +1,5 @@
 -- The machine's comparisons of two floats are those of the numbers that their bits stand for, counted in units of 2 ^ -1074.
-use Rattle.std.proofs.Common.{◌≡◌, ℕ, zero, suc, ◌+◌, ◌-◌, ◌*◌, ◌/◌, ◌%◌, ◌^◌, ◌<◌, ◌≤◌, Bool, true, false, cond, not, ◌&&◌, ◌||◌, T, eqb, ltb, leb, ℤ, sym, refl, ap, ◌∙◌, subst, mul-le-mul_right, mul_assoc, mul_comm, add-mul, mul-lt-mul_of_pos_right, mul-pos, zero-mul, mul_right_comm, arith, pow_pos, pow-add, ltb-false, ltb-true, le-ltb, lt-ltb, eq-eqb, ne_eqb, eqb-true}
+use Rattle.std.proofs.Common.{◌≡◌, ℕ, zero, suc, ◌+◌, ◌-◌, ◌*◌, ◌/◌, ◌%◌, ◌^◌, ◌<◌, ◌≤◌, Bool, true, false, cond, not, ◌&&◌, ◌||◌, eqb, ltb, leb, ℤ, sym, refl, ap, ◌∙◌, subst, mul-le-mul_right, mul_assoc, mul_comm, add-mul, mul-lt-mul_of_pos_right, mul-pos, zero-mul, mul_right_comm, arith, pow_pos, pow-add, ltb-false, ltb-true, le-ltb, lt-ltb, eq-eqb, ne_eqb, eqb-true}
 use mathlib.Core.Bool.{beq, and-false}
 use lib.Ieee.{Float, inf, fin, Format, binary32, binary64, low, hid, ones, top, up, down, below, level, of_fields, of_bits, lt, eq}
 use lib.Ieee as I
@@ -10,7 +10,9 @@ use Rattle.value.specs.Divide.{count}
 use Rattle.value.specs.Value.{Value, Real, nan, infinite, finite, sign_of, fields, real, reals, integers, naturals, passes, family, is_float, format_of, Order, less, equal, greater, unordered}
 use Rattle.value.specs.Value as Believed
 use Rattle.comparing.specs.Orders.{ordered, floating, wide_of}
-use Rattle.comparing.specs.declared.family.Order.TheVariants as O
+use Rattle.std.specs.Prelude.{Some, None}
+use Rattle.std.specs.Ordering.{float_partial_cmp}
+use Rattle.std.specs.declared.cmp.Ordering.TheVariants.{Less, Equal, Greater}
 use Rattle.value.proofs.Fields as Fields
 
 -- a machine's float and the number that it is
@@ -286,43 +288,14 @@ eq_is (is_fin s m e a X) (is_inf true) = refl
 eq_is (is_fin s m e a X) (is_inf false) = refl
 eq_is (is_fin s m e a X) (is_fin t n d b Y) = level_is m (up e) (down e) a n (up d) (down d) b (down_pos e) (down_pos d) X Y s t ∙ eq-signed s a t b
 
--- ---- the code's tests, in its order
+-- ---- std's order of two floats
 
-pub is-less : (o : Order) → passes Believed.lt o ≡ true → O.Less ≡ ordered o
+by_tests : (o : Order) → cond (passes Believed.lt o) (Some Less) (cond (passes Believed.eq o) (Some Equal) (cond (passes Believed.gt o) (Some Greater) None)) ≡ ordered o
 unfolding ordered passes
-is-less less e = refl
-is-less equal e = absurd (subst (λ (b : Bool). T (not b)) e tt)
-is-less greater e = absurd (subst (λ (b : Bool). T (not b)) e tt)
-is-less unordered e = absurd (subst (λ (b : Bool). T (not b)) e tt)
+by_tests less = refl
+by_tests equal = refl
+by_tests greater = refl
+by_tests unordered = refl
 
-pub is_greater : (o : Order) → passes Believed.gt o ≡ true → O.Greater ≡ ordered o
-unfolding ordered passes
-is_greater less e = absurd (subst (λ (b : Bool). T (not b)) e tt)
-is_greater equal e = absurd (subst (λ (b : Bool). T (not b)) e tt)
-is_greater greater e = refl
-is_greater unordered e = absurd (subst (λ (b : Bool). T (not b)) e tt)
-
-pub is-equal : (o : Order) → passes Believed.eq o ≡ true → O.Equal ≡ ordered o
-unfolding ordered passes
-is-equal less e = absurd (subst (λ (b : Bool). T (not b)) e tt)
-is-equal equal e = refl
-is-equal greater e = absurd (subst (λ (b : Bool). T (not b)) e tt)
-is-equal unordered e = absurd (subst (λ (b : Bool). T (not b)) e tt)
-
-pub is_none : (o : Order) → passes Believed.lt o ≡ false → passes Believed.gt o ≡ false → passes Believed.eq o ≡ false → O.Unordered ≡ ordered o
-unfolding ordered passes
-is_none less e f g = absurd (subst T e tt)
-is_none equal e f g = absurd (subst T g tt)
-is_none greater e f g = absurd (subst T f tt)
-is_none unordered e f g = refl
-
--- what a test on the two wide floats says of their order
-module _ (x y : Value) {u v : Float} (one_side : u ≡ wide_of x) (other-side : v ≡ wide_of y) where
-  pub lt-told : {t : Bool} → lt u v ≡ t → passes Believed.lt (reals (floating x) (floating y)) ≡ t
-  lt-told e = sym (lt-is (of_wide x) (of_wide y)) ∙ sym (ap (λ (w : Float). lt w (wide_of y)) one_side) ∙ sym (ap (lt u) other-side) ∙ e
-
-  pub gt-told : {t : Bool} → lt v u ≡ t → passes Believed.gt (reals (floating x) (floating y)) ≡ t
-  gt-told e = sym (gt-is (of_wide x) (of_wide y)) ∙ sym (ap (λ (w : Float). lt w (wide_of x)) other-side) ∙ sym (ap (lt v) one_side) ∙ e
-
-  pub eq-told : {t : Bool} → eq u v ≡ t → passes Believed.eq (reals (floating x) (floating y)) ≡ t
-  eq-told e = sym (eq_is (of_wide x) (of_wide y)) ∙ sym (ap (λ (w : Float). eq w (wide_of y)) one_side) ∙ sym (ap (eq u) other-side) ∙ e
+pub order-is : (x y : Value) {u v : Float} → u ≡ wide_of x → v ≡ wide_of y → float_partial_cmp u v ≡ ordered (reals (floating x) (floating y))
+order-is x y e f = rw (e, f, lt-is (of_wide x) (of_wide y), eq_is (of_wide x) (of_wide y), gt-is (of_wide x) (of_wide y)) (by_tests (reals (floating x) (floating y)))

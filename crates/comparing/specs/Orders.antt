@@ -1,18 +1,18 @@
 -- The order of two floats, as the code has it.
-use Rattle.std.specs.Prelude.{from_bits}
+use Rattle.std.specs.Prelude.{Option, Some, None, from_bits}
+use Rattle.std.specs.declared.cmp.Ordering.{Ordering}
+use Rattle.std.specs.declared.cmp.Ordering.TheVariants.{Less, Equal, Greater}
 use Rattle.std.specs.Float.Ieee as I
 use Rattle.value.specs.Answer.{pick}
 use Rattle.value.specs.Value.{Value, Real, real, family, is_float, format_of}
 use Rattle.value.specs.Value as Believed
-use Rattle.comparing.specs.declared.family.Order.{Order}
-use Rattle.comparing.specs.declared.family.Order.TheVariants as O
 
--- the code's names for what one number is to another
-unfoldable pub ordered : Believed.Order → Order
-ordered Believed.less = O.Less
-ordered Believed.equal = O.Equal
-ordered Believed.greater = O.Greater
-ordered Believed.unordered = O.Unordered
+-- what one number is to another, as `partial_cmp` has it
+unfoldable pub ordered : Believed.Order → Option Ordering
+ordered Believed.less = Some Less
+ordered Believed.equal = Some Equal
+ordered Believed.greater = Some Greater
+ordered Believed.unordered = None
 
 -- what a float's bits stand for; a value that is no float stands for none
 unfoldable pub floating : Value → Real

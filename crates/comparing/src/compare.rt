@@ -1,18 +1,17 @@
 // Comparisons and Not.
 ghost use Rattle.std.specs.Prelude.{◌≡◌};
-ghost use Rattle.value.specs.Answer.{ok};
 ghost use Rattle.value.specs.Value.{equality, unsigned_order, signed_order, float_order, compare_ints, compare_floats, notted};
-ghost use Rattle.value.specs.Value as Believed;
 ghost use Rattle.value.specs.Ir.{value_of, computed};
 ghost use Rattle.value.specs.Compare.{int_cmp_of, float_cmp_of};
-ghost use Rattle.comparing.specs.Compare.{order_of, test_of};
+ghost use Rattle.comparing.specs.Compare.{test_of};
 
-use crate::family::{AsI64, AsU64, Order, Test};
+use crate::family::Test;
 use crate::{family, order};
-use value::refusal::WRONG_KINDS;
-use value::{Computed, FloatCmp, IntCmp, IrValue};
+use value::refusal::Refusal;
+use value::{FloatCmp, IntCmp, IrValue};
 
-pub fn int_cmp(cmp: IntCmp, x: IrValue, y: IrValue) -> Computed
+#[tactic(auto, unfolding(crate::specs::Compare::test_of, value::specs::Compare::int_cmp_of, value::specs::Value::compare_ints))]
+pub fn int_cmp(cmp: IntCmp, x: IrValue, y: IrValue) -> Result<IrValue, Refusal>
     ensures { result ≡ computed (compare_ints (int_cmp_of cmp) (value_of x) (value_of y)) }
 {
     match cmp {
@@ -29,7 +28,8 @@ pub fn int_cmp(cmp: IntCmp, x: IrValue, y: IrValue) -> Computed
     }
 }
 
-pub fn float_cmp(cmp: FloatCmp, x: IrValue, y: IrValue) -> Computed
+#[tactic(auto, unfolding(crate::specs::Compare::test_of, value::specs::Compare::float_cmp_of, value::specs::Value::compare_floats))]
+pub fn float_cmp(cmp: FloatCmp, x: IrValue, y: IrValue) -> Result<IrValue, Refusal>
     ensures { result ≡ computed (compare_floats (float_cmp_of cmp) (value_of x) (value_of y)) }
 {
     match cmp {
@@ -43,70 +43,53 @@ pub fn float_cmp(cmp: FloatCmp, x: IrValue, y: IrValue) -> Computed
 }
 
 // The Bool unchanged, as in the Rust.
-pub fn not(x: IrValue) -> Computed
+#[tactic(auto, unfolding(value::specs::Ir::value_of, value::specs::Ir::ir_of, value::specs::Ir::computed, value::specs::Value::notted, value::specs::Value::tag, value::specs::Answer::need))]
+pub fn not(x: IrValue) -> Result<IrValue, Refusal>
     ensures { result ≡ computed (notted (value_of x)) }
 {
-    let IrValue::Bool(b) = x else {
-        return Computed::Refused(WRONG_KINDS);
-    };
-    Computed::Value(IrValue::Bool(b))
+    match x {
+        IrValue::Bool(_) => Ok(x),
+        _ => Err(Refusal::WrongKinds),
+    }
 }
 
-fn equal(test: Test, x: IrValue, y: IrValue) -> Computed
+fn equal(test: Test, x: IrValue, y: IrValue) -> Result<IrValue, Refusal>
     ensures { result ≡ computed (equality (test_of test) (value_of x) (value_of y)) }
 {
-    if x.tag() != y.tag() {
-        return Computed::Refused(WRONG_KINDS);
+    if x.tag() != y.tag() || !family::has_equality(x) {
+        return Err(Refusal::WrongKinds);
     }
-    if !family::has_equality(x) {
-        return Computed::Refused(WRONG_KINDS);
-    }
-    match x {
-        IrValue::F32(_) => truth(test, order::order(x, y)),
-        IrValue::F64(_) => truth(test, order::order(x, y)),
-        _ => truth(test, family::naturals(x.bits(), y.bits())),
-    }
+    let found = if family::is_float(x) {
+        order::order(x, y)
+    } else {
+        Some(x.bits().cmp(&y.bits()))
+    };
+    Ok(IrValue::Bool(family::passes(test, found)))
 }
 
-fn unsigned_order(test: Test, x: IrValue, y: IrValue) -> Computed
+fn unsigned_order(test: Test, x: IrValue, y: IrValue) -> Result<IrValue, Refusal>
     ensures { result ≡ computed (unsigned_order (test_of test) (value_of x) (value_of y)) }
 {
-    let AsU64::Is(a) = family::as_u64(x) else {
-        return Computed::Refused(WRONG_KINDS);
-    };
-    let AsU64::Is(b) = family::as_u64(y) else {
-        return Computed::Refused(WRONG_KINDS);
-    };
-    truth(test, family::naturals(a, b))
+    match (family::as_u64(x), family::as_u64(y)) {
+        (Some(a), Some(b)) => Ok(IrValue::Bool(family::passes(test, Some(a.cmp(&b))))),
+        _ => Err(Refusal::WrongKinds),
+    }
 }
 
-fn signed_order(test: Test, x: IrValue, y: IrValue) -> Computed
+fn signed_order(test: Test, x: IrValue, y: IrValue) -> Result<IrValue, Refusal>
     ensures { result ≡ computed (signed_order (test_of test) (value_of x) (value_of y)) }
 {
-    let AsI64::Is(a) = family::as_i64(x) else {
-        return Computed::Refused(WRONG_KINDS);
-    };
-    let AsI64::Is(b) = family::as_i64(y) else {
-        return Computed::Refused(WRONG_KINDS);
-    };
-    truth(test, family::integers(a, b))
+    match (family::as_i64(x), family::as_i64(y)) {
+        (Some(a), Some(b)) => Ok(IrValue::Bool(family::passes(test, Some(a.cmp(&b))))),
+        _ => Err(Refusal::WrongKinds),
+    }
 }
 
-fn float_order(test: Test, x: IrValue, y: IrValue) -> Computed
+fn float_order(test: Test, x: IrValue, y: IrValue) -> Result<IrValue, Refusal>
     ensures { result ≡ computed (float_order (test_of test) (value_of x) (value_of y)) }
 {
-    if !family::is_float(x) {
-        return Computed::Refused(WRONG_KINDS);
+    if !family::is_float(x) || !family::is_float(y) {
+        return Err(Refusal::WrongKinds);
     }
-    if !family::is_float(y) {
-        return Computed::Refused(WRONG_KINDS);
-    }
-    truth(test, order::order(x, y))
-}
-
-// The Bool that a test of an order is.
-fn truth(test: Test, found: Order) -> Computed
-    ensures { result ≡ computed (ok (Believed.truth (Believed.passes (test_of test) (order_of found)))) }
-{
-    Computed::Value(IrValue::Bool(family::passes(test, found)))
+    Ok(IrValue::Bool(family::passes(test, order::order(x, y))))
 }

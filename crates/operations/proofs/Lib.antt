@@ -1,4 +1,3 @@
 pub mod Divided
 pub mod Widths
-pub mod Wholes
 pub mod Arithmetic

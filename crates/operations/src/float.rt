@@ -1,89 +1,52 @@
-// FDiv and the other sign of a float, by their bits.
+// FDiv and the other sign of a float, by their bits. Each function stands at both widths, as `Single` and `Double` do: std's functions
+// on a float's pattern are no trait's, so a generic one would need the same bodies in a trait's two impls.
 ghost use Rattle.std.specs.Prelude.{◌≡◌};
 ghost use Rattle.std.specs.Float.{binary32, binary64};
-ghost use Rattle.std.specs.Float.Ieee.{of_bits};
 ghost use Rattle.value.specs.Divide.{divide_bits};
+ghost use Rattle.value.specs.Floats.{bits32, bits64, single, double};
 ghost use Rattle.value.specs.Ir.{value_of, computed};
 ghost use Rattle.value.specs.Value.{divide_floats, flip};
 
-use value::refusal::WRONG_KINDS;
-use value::{Computed, Double, IrValue, Single};
+use std::num::{
+    f32_from_bits_with_nan, f32_to_bits_with_nan, f64_from_bits_with_nan, f64_to_bits_with_nan,
+};
+use value::refusal::Refusal;
+use value::{Double, IrValue, Single};
 
-// The machine's float that a pattern stands for: of a NaN's there is one.
-pub fn number32(bits: u32) -> f32
-    ensures { result ≡ of_bits binary32 bits }
+// FDiv: two F32 or two F64, rounded once.
+pub fn fdiv(x: IrValue, y: IrValue) -> Result<IrValue, Refusal>
+    ensures { result ≡ computed (divide_floats (value_of x) (value_of y)) }
 {
-    if bits % 0x8000_0000 > 0x7f80_0000 {
-        0.0 / 0.0
-    } else {
-        f32::from_bits(bits)
+    match (x, y) {
+        (IrValue::F32(a), IrValue::F32(b)) => Ok(IrValue::F32(divide32(a, b))),
+        (IrValue::F64(a), IrValue::F64(b)) => Ok(IrValue::F64(divide64(a, b))),
+        _ => Err(Refusal::WrongKinds),
     }
 }
 
-pub fn number64(bits: u64) -> f64
-    ensures { result ≡ of_bits binary64 bits }
+fn divide32(a: Single, b: Single) -> Single
+    ensures { result ≡ single (divide_bits binary32 (bits32 a) (bits32 b)) }
 {
-    if bits % 0x8000_0000_0000_0000 > 0x7ff0_0000_0000_0000 {
-        0.0 / 0.0
-    } else {
-        f64::from_bits(bits)
-    }
+    let quotient = f32_from_bits_with_nan(a.to_bits()) / f32_from_bits_with_nan(b.to_bits());
+    Single::from_bits(f32_to_bits_with_nan(quotient))
 }
 
-fn divide32(a: u32, b: u32) -> u32
-    ensures { result ≡ divide_bits binary32 a b }
+fn divide64(a: Double, b: Double) -> Double
+    ensures { result ≡ double (divide_bits binary64 (bits64 a) (bits64 b)) }
 {
-    let quotient = Single::Number(number32(a) / number32(b));
-    quotient.to_bits()
+    let quotient = f64_from_bits_with_nan(a.to_bits()) / f64_from_bits_with_nan(b.to_bits());
+    Double::from_bits(f64_to_bits_with_nan(quotient))
 }
 
-fn divide64(a: u64, b: u64) -> u64
-    ensures { result ≡ divide_bits binary64 a b }
-{
-    let quotient = Double::Number(number64(a) / number64(b));
-    quotient.to_bits()
-}
-
-// The pattern with the other sign.
+// The pattern with the other sign: a carry out of the sign bit is dropped.
 pub fn flip32(bits: u32) -> u32
     ensures { result ≡ flip 32 bits }
 {
-    if bits < 0x8000_0000 {
-        bits + 0x8000_0000
-    } else {
-        bits - 0x8000_0000
-    }
+    bits.wrapping_add(0x8000_0000)
 }
 
 pub fn flip64(bits: u64) -> u64
     ensures { result ≡ flip 64 bits }
 {
-    if bits < 0x8000_0000_0000_0000 {
-        bits + 0x8000_0000_0000_0000
-    } else {
-        bits - 0x8000_0000_0000_0000
-    }
-}
-
-// FDiv: two F32 or two F64, rounded once.
-pub fn fdiv(x: IrValue, y: IrValue) -> Computed
-    ensures { result ≡ computed (divide_floats (value_of x) (value_of y)) }
-{
-    match x {
-        IrValue::F32(a) => {
-            let IrValue::F32(b) = y else {
-                return Computed::Refused(WRONG_KINDS);
-            };
-            let bits = divide32(a.to_bits(), b.to_bits());
-            Computed::Value(IrValue::F32(Single::from_bits(bits)))
-        }
-        IrValue::F64(a) => {
-            let IrValue::F64(b) = y else {
-                return Computed::Refused(WRONG_KINDS);
-            };
-            let bits = divide64(a.to_bits(), b.to_bits());
-            Computed::Value(IrValue::F64(Double::from_bits(bits)))
-        }
-        _ => Computed::Refused(WRONG_KINDS),
-    }
+    bits.wrapping_add(0x8000_0000_0000_0000)
 }

@@ -1,24 +1,28 @@
 -- The bytes of a number, the lowest first, there and back.
-use mathlib.Core.Path.{◌≡◌, refl, sym, ap, ◌∙◌, subst}
+use mathlib.Core.Path.{◌≡◌, refl, sym, ap, ap₂, ◌∙◌, subst}
 use mathlib.Core.List.{List, [], ◌∷◌, ◌++◌}
 use Prim.Native.Nat.{ℕ, zero, suc, ◌+◌, ◌*◌, ◌/◌, ◌%◌, ◌<◌, ◌≤◌, ◌^◌}
-use native.Mathlib.Nat.{zero-add, lt_of_lt_of_le}
-use lib.Pow.{pow-add, pow_mono, pow_pos}
+use native.Mathlib.Nat.{mul_assoc, zero-mul, pow-suc, div-div-eq-div-mul}
+use mir.Syntax.{w64}
+use Rattle.std.specs.Int.{byte_at, byte_worth, bytes_low_first, sum_through, to_le_bytes, from_le_bytes}
+use Rattle.std.proofs.lemmas.List.{length-drop, take_all}
+use lib.Pow.{pow-add, pow_pos}
 use native.Mathlib.Omega.{arith}
-use lib.ListN.{length, take, drop, set, get_or, length-append, take-append-drop}
-use lib.Seq.{sets, sets-eq, drop-cons, take_at, length-take-le}
+use lib.ListN.{length, take, drop, get_or, length-append, take-append-drop}
+use lib.Seq.{take_at, length-take-le}
 use mathlib.Core.Bool.{Bool, true, false, not, ◌&&◌}
 use borrow.Author.Tests.{le-leb, lt-leb, lt-ltb, le-ltb, ltb-true, leb-true}
 use lib.Dec.{leb, ltb}
+use Rattle.std.specs.Prelude.{Option, Some, None, Result, Ok}
+use Rattle.std.specs.Option.{ok_or}
+use Rattle.value.specs.declared.refusal.Refusal.{Refusal}
 use Rattle.value.specs.Answer.{pick, need, ok}
 use Rattle.value.specs.Refusal.{not_bool}
 use Rattle.value.specs.Value.{Kind, Value, IrType, value, kind_of, tag, same, size, bool, bytes_of, from_bytes, le_bytes, le_number}
 use Rattle.value.specs.Value as Believed
 use Rattle.value.specs.Tags.{kind_at, holds}
-use Rattle.value.specs.Ir.{value_of, ir_of, ir_value, own, made, written, answered, loaded}
+use Rattle.value.specs.Ir.{value_of, ir_of, ir_value, own, made, written, computed, loaded}
 use Rattle.value.specs.declared.IrValue.{IrValue}
-use Rattle.value.specs.declared.Made as M
-use Rattle.value.specs.declared.Loaded as L
 use Rattle.value.proofs.Roundtrip.{scalar_small, bits_back, value-back, own-holds}
 use Rattle.value.proofs.Tags.{kind_of_tag}
 
@@ -27,30 +31,64 @@ unfolding le_bytes
 length-bytes zero b = refl
 length-bytes (suc n) b = ap suc (length-bytes n (b / 256))
 
--- one turn of the loop that stores
-pub stored : (m : List ℕ) (p k x : ℕ) {r : ℕ} → r ≡ suc k → sets m p (le_bytes r x) ≡ sets (set m p (x % 256)) (suc p) (le_bytes k (x / 256))
+-- ---- std's eight bytes are these
+
+low_is : (i k n : ℕ) → bytes_low_first i k n ≡ le_bytes k (n / 256 ^ i)
 unfolding le_bytes
-stored m p k x e = rw e
+low_is i zero n = refl
+low_is i (suc k) n = ap₂ (λ (x : ℕ) (xs : List ℕ). x ∷ xs) (byte_is i) (low_is (suc i) k n ∙ ap (le_bytes k) (ap (λ (p : ℕ). n / p) (pow-suc 256 i) ∙ sym (div-div-eq-div-mul n (256 ^ i) 256)))
+  where
+    byte_is : (i : ℕ) → byte_at i n ≡ n / 256 ^ i % 256
+    byte_is zero = omega arith
+    byte_is (suc i) = refl
 
-pub none_left : (m : List ℕ) (p x : ℕ) {r : ℕ} → r ≡ 0 → sets m p (le_bytes r x) ≡ m
+front_bytes : (k m b : ℕ) → k ≤ m → take k (le_bytes m b) ≡ le_bytes k b
 unfolding le_bytes
-none_left m p x e = rw e
+front_bytes zero m b h = refl
+front_bytes (suc k) zero b h = absurd (omega arith)
+front_bytes (suc k) (suc m) b h = ap (λ (bs : List ℕ). b % 256 ∷ bs) (front_bytes k m (b / 256) (omega arith))
 
-pub at_front : (m : List ℕ) (n b : ℕ) → n ≤ length m → sets m 0 (le_bytes n b) ≡ le_bytes n b ++ drop n m
-at_front m n b h =
-    let l = length-bytes n b in
-    sets-eq (le_bytes n b) m 0 (omega (arith, l)) ∙ ap (λ (k : ℕ). le_bytes n b ++ drop k m) (zero-add _ ∙ l)
+-- the lowest of the eight bytes
+pub lowest : (k b : ℕ) → k ≤ 8 → take k (to_le_bytes w64 b) ≡ le_bytes k b
+lowest k b h = let e : b / 256 ^ 0 ≡ b = omega arith in ap (take k) (low_is 0 8 b) ∙ ap (λ (n : ℕ). take k (le_bytes 8 n)) e ∙ front_bytes k 8 b h
 
--- one turn of the loop that loads: the byte before comes in front
-pub number_cons : (m : List ℕ) (i k : ℕ) → i < length m → le_number (take (suc k) (drop i m)) ≡ get_or m i 0 + 256 * le_number (take k (drop (suc i) m))
+number_more : (k : ℕ) (bs : List ℕ) → le_number (take (suc k) bs) ≡ le_number (take k bs) + get_or bs k 0 * 256 ^ k
 unfolding le_number
-number_cons m i k h = rw (drop-cons m i 0 h)
+number_more zero [] = refl
+number_more zero (b ∷ bs) = omega arith
+number_more (suc k) [] = ap (λ (n : ℕ). 0 + n) (sym (zero-mul (256 ^ suc k)))
+number_more (suc k) (b ∷ bs) =
+    let r = number_more k bs in
+    let p : get_or bs k 0 * 256 ^ suc k ≡ get_or bs k 0 * 256 ^ k * 256 = ap (λ (n : ℕ). get_or bs k 0 * n) (pow-suc 256 k) ∙ sym (mul_assoc (get_or bs k 0) (256 ^ k) 256) in
+    omega arith
 
-pub grow : (k : ℕ) → 2 ^ (8 * suc k) ≡ 256 * 2 ^ (8 * k)
+sum_is : (k : ℕ) (bs : List ℕ) → sum_through (λ i. byte_worth i (get_or bs i 0)) k ≡ le_number (take (suc k) bs)
+sum_is zero bs = let r = number_more 0 bs in unfold le_number in omega arith
+sum_is (suc k) bs = ap (λ (n : ℕ). n + get_or bs (suc k) 0 * 256 ^ suc k) (sum_is k bs) ∙ sym (number_more (suc k) bs)
+
+no_more : (bs zs : List ℕ) → le_number zs ≡ 0 → le_number (bs ++ zs) ≡ le_number bs
+unfolding le_number
+no_more [] zs h = h
+no_more (b ∷ bs) zs h = ap (λ (n : ℕ). b + 256 * n) (no_more bs zs h)
+
+none_after : (n : ℕ) (zs : List ℕ) → le_number zs ≡ 0 → le_number (drop n zs) ≡ 0
+unfolding le_number
+none_after zero zs h = h
+none_after (suc n) [] h = refl
+none_after (suc n) (z ∷ zs) h = none_after n zs (omega arith)
+
+abbrev zeros : List ℕ
+zeros = 0 ∷ 0 ∷ 0 ∷ 0 ∷ 0 ∷ 0 ∷ 0 ∷ 0 ∷ []
+
+-- the number of eight bytes, all 0 but the front
+pub padded : (n : ℕ) (bs : List ℕ) → length bs ≡ n → n ≤ 8 → from_le_bytes w64 (bs ++ drop n zeros) ≡ le_number bs
+unfolding le_number
+padded n bs l h =
+    let all : length (bs ++ drop n zeros) ≤ 8 = omega (arith, length-append bs (drop n zeros), length-drop n zeros) in
+    sum_is 7 (bs ++ drop n zeros) ∙ ap le_number (take_all 8 (bs ++ drop n zeros) all) ∙ no_more bs (drop n zeros) (none_after n zeros refl)
+
+grow : (k : ℕ) → 2 ^ (8 * suc k) ≡ 256 * 2 ^ (8 * k)
 grow k = let e : 8 * suc k ≡ 8 + 8 * k = omega arith in ap (λ (j : ℕ). 2 ^ j) e ∙ pow-add 2 8 (8 * k)
-
-pub small : (k x : ℕ) → k < 8 → x < 2 ^ (8 * k) → x < 2 ^ 56
-small k x h l = lt_of_lt_of_le l (pow_mono {j = 56} (omega arith))
 
 -- ---- what `write` leaves
 
@@ -122,40 +160,30 @@ number_lt (suc n) (b ∷ bs) h =
     next : (b n m : ℕ) → b < 256 → n < m → b + 256 * n < 256 * m
     next b n m f l = omega arith
 
-abbrev loaded_of : M.Made → L.Loaded
-loaded_of (M.TheVariants.Value v) = L.TheVariants.Value v
-loaded_of M.TheVariants.Nothing = L.TheVariants.Refused not_bool
-
 module _ (t : IrType) (m : List ℕ) {n : ℕ} (e : n ≡ size (kind_of t)) where
-  pub read_short : length m < n → L.TheVariants.Short ≡ loaded t m
+  pub read_short : length m < n → None ≡ loaded t m
   unfolding loaded
   read_short h = rw (sym e, lt-leb n (length m) h)
 
-  made-is : (b : ℕ) → b < 2 ^ (8 * n) → loaded_of (made (kind_at (tag (kind_of t))) b) ≡ answered (need (not (same (kind_of t) bool && ltb 1 b)) not_bool (ok (value (kind_of t) b)))
-  unfolding made answered need
+  made-is : (b : ℕ) → b < 2 ^ (8 * n) → ok_or (made (kind_at (tag (kind_of t))) b) not_bool ≡ computed (need (not (same (kind_of t) bool && ltb 1 b)) not_bool (ok (value (kind_of t) b)))
+  unfolding made computed need
   made-is b h =
-      ap (λ o. loaded_of (made o b)) (kind_of_tag (kind_of t))
-      ∙ ap (λ (u : Bool). loaded_of (pick u (M.TheVariants.Value (ir_of (kind_of t) b)) M.TheVariants.Nothing)) (type-holds t b (subst (λ (n : ℕ). b < 2 ^ (8 * n)) e h))
+      ap (λ o. ok_or (made o b) not_bool) (kind_of_tag (kind_of t))
+      ∙ ap (λ (u : Bool). ok_or (pick u (Some (ir_of (kind_of t) b)) None) not_bool) (type-holds t b (subst (λ (n : ℕ). b < 2 ^ (8 * n)) e h))
       ∙ go (not (same (kind_of t) bool && ltb 1 b))
     where
-      go : (u : Bool) → loaded_of (pick u (M.TheVariants.Value (ir_of (kind_of t) b)) M.TheVariants.Nothing) ≡ answered (need u not_bool (ok (value (kind_of t) b)))
+      go : (u : Bool) → ok_or (pick u (Some (ir_of (kind_of t) b)) None) not_bool ≡ computed (need u not_bool (ok (value (kind_of t) b)))
       go true = refl
       go false = refl
 
-  whole : {b j : ℕ} {g : M.Made} → n ≤ length m → ((i : ℕ) → get_or m i 0 < 256) → b ≡ le_number (take n m) → j ≡ tag (kind_of t) → g ≡ made (kind_at j) b → loaded_of g ≡ loaded t m
+  -- the value made of enough bytes, or the refusal where there is none
+  pub read-whole : {b j : ℕ} {g : Option IrValue} {r : Result IrValue Refusal} → n ≤ length m → ((i : ℕ) → get_or m i 0 < 256) → b ≡ le_number (take n m) → j ≡ tag (kind_of t)
+      → g ≡ made (kind_at j) b → r ≡ ok_or g not_bool → Some r ≡ loaded t m
   unfolding loaded from_bytes
-  whole {b} h f p q r =
+  read-whole {b} h f p q r s =
       let bound : b < 2 ^ (8 * n) = subst (λ (b : ℕ). b < 2 ^ (8 * n)) (sym p) (number_lt n m f) in
-      ap loaded_of r ∙ ap (λ (j : ℕ). loaded_of (made (kind_at j) b)) q ∙ made-is b bound
+      ap Some (s ∙ ap (λ o. ok_or o not_bool) r ∙ ap (λ (j : ℕ). ok_or (made (kind_at j) b) not_bool) q ∙ made-is b bound)
       ∙ rw (p, sym e, le-leb n (length m) h)
-
-  pub read-value : {b j : ℕ} {g : M.Made} {v : IrValue} → n ≤ length m → ((i : ℕ) → get_or m i 0 < 256) → b ≡ le_number (take n m) → j ≡ tag (kind_of t) → g ≡ made (kind_at j) b
-      → g ≡ M.TheVariants.Value v → L.TheVariants.Value v ≡ loaded t m
-  read-value h f p q r z = sym (ap loaded_of z) ∙ whole h f p q r
-
-  pub read-nothing : {b j : ℕ} {g : M.Made} → n ≤ length m → ((i : ℕ) → get_or m i 0 < 256) → b ≡ le_number (take n m) → j ≡ tag (kind_of t) → g ≡ made (kind_at j) b
-      → g ≡ M.TheVariants.Nothing → L.TheVariants.Refused not_bool ≡ loaded t m
-  read-nothing h f p q r z = sym (ap loaded_of z) ∙ whole h f p q r
 
 -- ---- there and back
 
@@ -195,8 +223,8 @@ holds-lt Believed.char b h = scalar_small b h
 holds-lt Believed.asn b h = ltb-true b _ h
 holds-lt Believed.pointer b h = ltb-true b _ h
 
-loaded-front : (t : IrType) (u : Value) (rest : List ℕ) → holds u.kind u.bits ≡ true → kind_of t ≡ u.kind → loaded t (bytes_of u ++ rest) ≡ L.TheVariants.Value (ir_value u)
-unfolding loaded from_bytes answered need
+loaded-front : (t : IrType) (u : Value) (rest : List ℕ) → holds u.kind u.bits ≡ true → kind_of t ≡ u.kind → loaded t (bytes_of u ++ rest) ≡ Some (Ok (ir_value u))
+unfolding loaded from_bytes computed need
 loaded-front t u rest h k =
     let n = size u.kind in
     let e : size (kind_of t) ≡ n = ap size k in
@@ -206,20 +234,20 @@ loaded-front t u rest h k =
     let g : le_number (bytes_of u) ≡ u.bits = number_of u (holds-lt u.kind u.bits h) in
     let s : not (same (kind_of t) bool && ltb 1 u.bits) ≡ true =
     sym (type-holds t u.bits (subst (λ (j : ℕ). u.bits < 2 ^ (8 * j)) (sym e) (holds-lt u.kind u.bits h))) ∙ ap (λ j. holds j u.bits) k ∙ h in
-    rw (e, le-leb n _ a, f, g, s) (ap (λ j. L.TheVariants.Value (ir_of j u.bits)) k)
+    rw (e, le-leb n _ a, f, g, s) (ap (λ j. Some (Ok (ir_of j u.bits))) k)
   where
     number_of : (u : Value) → u.bits < 2 ^ (8 * size u.kind) → le_number (bytes_of u) ≡ u.bits
     number_of u h = unfold bytes_of in number-bytes (size u.kind) u.bits h
 
 -- "reading back what was written gives the value"
 pub read-written : (t : IrType) (v : IrValue) (to : List ℕ) → own v ≡ true → kind_of t ≡ (value_of v).kind → size (value_of v).kind ≤ length to
-    → loaded t (written (bytes_of (value_of v)) to) ≡ L.TheVariants.Value v
+    → loaded t (written (bytes_of (value_of v)) to) ≡ Some (Ok v)
 read-written t v to o k h =
     let u = value_of v in
     let n = size u.kind in
     let l : length (bytes_of u) ≡ n = same_size u to refl in
     let w : written (bytes_of u) to ≡ bytes_of u ++ drop n to = rw (l, le-leb n (length to) h) in
-    ap (loaded t) w ∙ loaded-front t u (drop n to) (own-holds v o) k ∙ ap L.TheVariants.Value (value-back v o)
+    ap (loaded t) w ∙ loaded-front t u (drop n to) (own-holds v o) k ∙ ap (λ (w : IrValue). Some (Ok w)) (value-back v o)
 
 front-written : (t : IrType) (v : IrValue) (bs : List ℕ) → ((i : ℕ) → get_or bs i 0 < 256) → size (kind_of t) ≤ length bs
     → holds (kind_of t) (le_number (take (size (kind_of t)) bs)) ≡ true → ir_of (kind_of t) (le_number (take (size (kind_of t)) bs)) ≡ v → written (bytes_of (value_of v)) bs ≡ bs
@@ -232,17 +260,17 @@ front-written t v bs h l o i =
     ap (λ (fs : List ℕ). written fs bs) f ∙ rw (length-take-le n bs l, le-leb n (length bs) l) (take-append-drop n bs)
 
 -- "writing back what was read gives the bytes"
-pub write_read : (t : IrType) (v : IrValue) (bs : List ℕ) → ((i : ℕ) → get_or bs i 0 < 256) → loaded t bs ≡ L.TheVariants.Value v → written (bytes_of (value_of v)) bs ≡ bs
-unfolding loaded from_bytes answered need
+pub write_read : (t : IrType) (v : IrValue) (bs : List ℕ) → ((i : ℕ) → get_or bs i 0 < 256) → loaded t bs ≡ Some (Ok v) → written (bytes_of (value_of v)) bs ≡ bs
+unfolding loaded from_bytes computed need
 write_read t v bs h e = tested (leb (size (kind_of t)) (length bs)) refl e
   where
     valued : (u : Bool) → not (same (kind_of t) bool && ltb 1 (le_number (take (size (kind_of t)) bs))) ≡ u → size (kind_of t) ≤ length bs
-        → answered (need u not_bool (ok (value (kind_of t) (le_number (take (size (kind_of t)) bs))))) ≡ L.TheVariants.Value v → written (bytes_of (value_of v)) bs ≡ bs
+        → Some (computed (need u not_bool (ok (value (kind_of t) (le_number (take (size (kind_of t)) bs)))))) ≡ Some (Ok v) → written (bytes_of (value_of v)) bs ≡ bs
     valued true s l e = front-written t v bs h l (type-holds t _ (number_lt (size (kind_of t)) bs h) ∙ s) (cc)
     valued false s l e = let z : ◌≡◌ {A = ℕ} 0 1 = cc in absurd (omega arith)
 
     tested : (u : Bool) → leb (size (kind_of t)) (length bs) ≡ u
-        → pick u (answered (need (not (same (kind_of t) bool && ltb 1 (le_number (take (size (kind_of t)) bs)))) not_bool (ok (value (kind_of t) (le_number (take (size (kind_of t)) bs)))))) L.TheVariants.Short ≡ L.TheVariants.Value v
+        → pick u (Some (computed (need (not (same (kind_of t) bool && ltb 1 (le_number (take (size (kind_of t)) bs)))) not_bool (ok (value (kind_of t) (le_number (take (size (kind_of t)) bs))))))) None ≡ Some (Ok v)
         → written (bytes_of (value_of v)) bs ≡ bs
     tested true s e = valued _ refl (leb-true (size (kind_of t)) (length bs) s) e
     tested false s e = let z : ◌≡◌ {A = ℕ} 0 1 = cc in absurd (omega arith)

@@ -3,9 +3,8 @@ use mathlib.Core.Path.{◌≡◌, refl, sym, ◌∙◌, subst}
 use Prim.Native.Nat.{ℕ, ◌<◌, ◌≤◌, ◌*◌, ◌%◌}
 use mathlib.Core.Bool.{Bool, true, false, not, cond}
 use lib.Dec.{T}
-use lib.Ieee.{Float, nan, inf, fin, Format, binary32, binary64, ones, hid, top, to_bits, of_bits, nan_bits, is_nan, fits, ne, div}
+use lib.Ieee.{Float, nan, inf, fin, Format, binary32, binary64, ones, hid, top, to_bits, of_bits, nan_bits, is_nan, fits, div}
 use lib.Ieee.Bits.{nan_bits_above, nan_bits_is, to_bits-of_bits, of_bits-to_bits}
-use lib.Ieee.Compare.{differs_from_itself}
 use borrow.Author.Tests.{lt-ltb, le-ltb}
 use Rattle.value.specs.declared.Single.{Single}
 use Rattle.value.specs.declared.Double.{Double}
@@ -23,18 +22,10 @@ no_pattern f n h = nan_bits_above f n ∙ le-ltb _ _ h
 pub not_t : (b : Bool) → b ≡ false → T (not b)
 not_t b e = subst (λ (t : Bool). T (not t)) (sym e) tt
 
--- the code's test of a float, `x != x`
-pub is-nan : (x : Float) → ne x x ≡ true → x ≡ nan
-is-nan x e = differs_from_itself x (subst T (sym e) tt)
-
-pub no_nan : (x : Float) → ne x x ≡ false → T (not (is_nan x))
-unfolding ne is_nan
-no_nan nan e = subst T e tt
-no_nan (inf s) e = tt
-no_nan (fin s m e) h = tt
+pub ruleset pattern_tests = (is-pattern, no_pattern, not_t)
 
 -- a NaN's pattern stands for the one NaN
-is_the_nan : (v : Float) → is_nan v ≡ true → v ≡ nan
+pub is_the_nan : (v : Float) → is_nan v ≡ true → v ≡ nan
 unfolding is_nan
 is_the_nan nan e = refl
 is_the_nan (inf s) e = absurd (subst (λ (b : Bool). T (not b)) e tt)

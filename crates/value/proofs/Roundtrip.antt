@@ -9,12 +9,13 @@ use lib.Dec.{T, ltb, leb}
 use lib.Ieee.{binary32, binary64, fits, is_nan, nan_bits}
 use lib.Ieee.Bits.{to_bits-lt}
 use lib.IntN.{ℤ, pos, negsuc, ◌-ℤ◌}
+use Rattle.std.specs.Prelude.{Some, None}
 use mir.Syntax.{Width, w8, w16, w32, w64}
 use mir.Val.{SFits, bits, hbits, to_z, bool_byte}
 use mir.ValLaws.{of_z-to_z, of_z_fits, to_z-of_z}
 use Rattle.value.specs.Answer.{pick}
 use Rattle.value.specs.Value.{Kind, value, tag, width, family, size, integer, bits_of, within, signed, is_scalar, bool, u8, u16, u32, u64, i8, i16, i32, i64, f32, f64, char, asn, pointer}
-use Rattle.value.specs.Tags.{kind_at, holds, held}
+use Rattle.value.specs.Tags.{kind_at, holds}
 use Rattle.value.specs.Floats.{bits32, bits64, single, double}
 use Rattle.value.specs.Ir.{value_of, ir_of, ir_value, own_single, own_double, own, made}
 use Rattle.value.specs.declared.IrValue.{IrValue}
@@ -23,7 +24,6 @@ use Rattle.value.specs.declared.Single.{Single}
 use Rattle.value.specs.declared.Double.{Double}
 use Rattle.value.specs.declared.Single.TheVariants as S
 use Rattle.value.specs.declared.Double.TheVariants as D
-use Rattle.value.specs.declared.Made.TheVariants as M
 use Rattle.value.proofs.Complement.{bits_are, reading}
 use Rattle.value.proofs.Patterns.{single_there, double_there, single-back, double-back}
 use Rattle.value.proofs.Tags.{kind_of_tag, tag_of_kind}
@@ -36,11 +36,6 @@ told e h = h ∙ sym (ap (λ (v : IrValue). (value_of v).bits) e)
 pub byte_of : (b : Bool) → bool_byte b ≡ pick b 1 0
 byte_of true = refl
 byte_of false = refl
-
-pub not_made : (k : Option Kind) (b : ℕ) → held k b ≡ false → M.Nothing ≡ made k b
-unfolding held made
-not_made none b h = refl
-not_made (some k) b h = rw h
 
 -- a scalar value has 32 bits at most
 pub scalar_small : (b : ℕ) → is_scalar b ≡ true → b < 2 ^ 32
@@ -140,24 +135,24 @@ own-holds (Ir.Pointer n) h = h
 
 -- ---- the same of the functions: `from_bits` of `tag` and `bits`, and back
 
-made_of : (k : Kind) (b : ℕ) → holds k b ≡ true → made (kind_at (tag k)) b ≡ M.Value (ir_of k b)
+made_of : (k : Kind) (b : ℕ) → holds k b ≡ true → made (kind_at (tag k)) b ≡ Some (ir_of k b)
 unfolding made
 made_of k b h = ap (λ o. made o b) (kind_of_tag k) ∙ rw h
 
-pub made-back : (v : IrValue) → own v ≡ true → made (kind_at (tag (value_of v).kind)) (value_of v).bits ≡ M.Value v
-made-back v h = made_of (value_of v).kind (value_of v).bits (own-holds v h) ∙ ap M.Value (value-back v h)
+pub made-back : (v : IrValue) → own v ≡ true → made (kind_at (tag (value_of v).kind)) (value_of v).bits ≡ Some v
+made-back v h = made_of (value_of v).kind (value_of v).bits (own-holds v h) ∙ ap Some (value-back v h)
 
-pub made_from_lem : (n b : ℕ) (v : IrValue) → made (kind_at n) b ≡ M.Value v → (tag (value_of v).kind ≡ n) × ((value_of v).bits ≡ b)
+pub made_from_lem : (n b : ℕ) (v : IrValue) → made (kind_at n) b ≡ Some v → (tag (value_of v).kind ≡ n) × ((value_of v).bits ≡ b)
 unfolding made
 made_from_lem n b v h = go (kind_at n) refl h
   where
-    value-of : (k : Kind) (t : Bool) → holds k b ≡ t → kind_at n ≡ some k → pick t (M.Value (ir_of k b)) M.Nothing ≡ M.Value v → (tag (value_of v).kind ≡ n) × ((value_of v).bits ≡ b)
+    value-of : (k : Kind) (t : Bool) → holds k b ≡ t → kind_at n ≡ some k → pick t (Some (ir_of k b)) None ≡ Some v → (tag (value_of v).kind ≡ n) × ((value_of v).bits ≡ b)
     value-of k true e f h =
         let i : ir_of k b ≡ v = cc in
         let w : value_of v ≡ value k b = sym (ap value_of i) ∙ bits_back k b e in
         (ap (λ u. tag u.kind) w ∙ tag_of_kind n k f, ap (λ u. u.bits) w)
     value-of k false e f h = let z : ◌≡◌ {A = ℕ} 0 1 = cc in absurd (omega arith)
 
-    go : (o : Option Kind) → kind_at n ≡ o → made o b ≡ M.Value v → (tag (value_of v).kind ≡ n) × ((value_of v).bits ≡ b)
+    go : (o : Option Kind) → kind_at n ≡ o → made o b ≡ Some v → (tag (value_of v).kind ≡ n) × ((value_of v).bits ≡ b)
     go none e h = let z : ◌≡◌ {A = ℕ} 0 1 = cc in absurd (omega arith)
     go (some k) e h = value-of k (holds k b) refl e h

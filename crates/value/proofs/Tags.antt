@@ -1,4 +1,4 @@
--- Tags and kinds: each kind has its tag, a number that is no tag names no kind, and one that is no type's tag names no type.
+-- Tags and kinds: each kind has its tag, and a number that is no tag names no kind.
 use mathlib.Core.Path.{◌≡◌, refl, sym, ap, ◌∙◌}
 use mathlib.Core.Bool.{Bool, true, false}
 use mathlib.Core.Option.{Option, none, some, some-injective, none-ne-some}
@@ -7,12 +7,11 @@ use native.Mathlib.Omega.{arith}
 use mathlib.Core.List.{List, [], ◌∷◌}
 use borrow.Author.Tests.{ne_eqb, eqb-true}
 use lib.Dec.{eqb}
+use Rattle.std.specs.Prelude.{Some, None}
 use Rattle.value.specs.Answer.{pick}
 use Rattle.value.specs.Value.{Kind, IrType, kind_of, tag, bool, u8, u16, u32, u64, i8, i16, i32, i64, f32, f64, char, asn, pointer}
 use Rattle.value.specs.Tags.{named, kinds, kind_at, type_of_kind, typed, type_at, holds, held}
 use Rattle.value.specs.Ir.{ir_of, made, tagged}
-use Rattle.value.specs.declared.Made.TheVariants as M
-use Rattle.value.specs.declared.Tagged.TheVariants.{Nothing}
 
 pub kind_of_tag : (k : Kind) → kind_at (tag k) ≡ some k
 unfolding tag named kind_at
@@ -116,9 +115,9 @@ module _ (k : Kind) (b : ℕ) {n : ℕ} (e : n ≡ tag k) where
   unfolding held
   held_at = ap (λ (m : ℕ). held (kind_at m) b) e ∙ ap (λ o. held o b) (kind_of_tag k)
 
-  pub made_at_lem : held (kind_at n) b ≡ true → M.Value (ir_of k b) ≡ made (kind_at n) b
+  pub made_at_lem : held (kind_at n) b ≡ true → Some (ir_of k b) ≡ made (kind_at n) b
   unfolding made
-  made_at_lem h = sym (ap (λ (m : ℕ). made (kind_at m) b) e ∙ ap (λ o. made o b) (kind_of_tag k) ∙ ap (λ (t : Bool). pick t (M.Value (ir_of k b)) M.Nothing) (sym held_at ∙ h))
+  made_at_lem h = sym (ap (λ (m : ℕ). made (kind_at m) b) e ∙ ap (λ o. made o b) (kind_of_tag k) ∙ ap (λ (t : Bool). pick t (Some (ir_of k b)) None) (sym held_at ∙ h))
 
 -- n is not k
 abbrev pub No : ℕ → ℕ → Type 0
@@ -129,14 +128,15 @@ unfolding tag named kind_at
 no_kind n a b c d e f g h i j k l m o =
     simp (ne_eqb n 1 a, ne_eqb n 2 b, ne_eqb n 3 c, ne_eqb n 4 d, ne_eqb n 5 e, ne_eqb n 6 f, ne_eqb n 7 g, ne_eqb n 8 h, ne_eqb n 9 i, ne_eqb n 10 j, ne_eqb n 11 k, ne_eqb n 12 l, ne_eqb n 13 m, ne_eqb n 14 o)
 
+-- a number that is none of a type's tags names no type
 pub no_type : (n : ℕ) → ((((((((((((Unit {0} × No n 1) × No n 2) × No n 3) × No n 4) × No n 5) × No n 6) × No n 7) × No n 8) × No n 9) × No n 10) × No n 11) × No n 14)
-    → Nothing ≡ tagged (type_at n)
+    → None ≡ tagged (type_at n)
 unfolding tag named kind_at type_of_kind typed tagged
 no_type n r =
     simp (ne_eqb n 1 r.0.0.0.0.0.0.0.0.0.0.0.1, ne_eqb n 2 r.0.0.0.0.0.0.0.0.0.0.1, ne_eqb n 3 r.0.0.0.0.0.0.0.0.0.1, ne_eqb n 4 r.0.0.0.0.0.0.0.0.1, ne_eqb n 5 r.0.0.0.0.0.0.0.1, ne_eqb n 6 r.0.0.0.0.0.0.1, ne_eqb n 7 r.0.0.0.0.0.1, ne_eqb n 8 r.0.0.0.0.1, ne_eqb n 9 r.0.0.0.1, ne_eqb n 10 r.0.0.1, ne_eqb n 11 r.0.1, ne_eqb n 14 r.1)
     (go (eqb n 12) (eqb n 13))
   where
-    go : (a b : Bool) → Nothing ≡ tagged (typed (pick a (some char) (pick b (some asn) none)))
+    go : (a b : Bool) → None ≡ tagged (typed (pick a (some char) (pick b (some asn) none)))
     go true b = refl
     go false true = refl
     go false false = refl

@@ -1,7 +1,7 @@
 -- Worked cases of document 01 that values alone decide, as a list that is computed.
 use Rattle.std.specs.Prelude.{ℕ, Bool, true, false, ◌&&◌, List, [], ◌∷◌, eqb, pos, neg_ℤ}
 use Rattle.value.specs.Answer.{Answer, ok, refused}
-use Rattle.value.specs.Refusal.{wrong_kinds, outside_width, not_bool}
+use Rattle.value.specs.Refusal.{wrong_kinds, outside_width, not_bool, number_of}
 use Rattle.value.specs.Value.{Value, value, same, bits_of, i8, u64, IrType, div, mod', Eq, arithmetic, negated, compare_ints, from_bytes}
 
 -- a case: which P it is of, and whether it comes out as the document says
@@ -18,7 +18,7 @@ unfoldable pub same_answer : Answer Value → Answer Value → Bool
 same_answer (ok v) (ok w) = same v.kind w.kind && eqb v.bits w.bits
 same_answer (ok v) (refused n) = false
 same_answer (refused m) (ok w) = false
-same_answer (refused m) (refused n) = eqb m n
+same_answer (refused m) (refused n) = eqb (number_of m) (number_of n)
 
 abbrev pub gives : ℕ → Answer Value → Answer Value → Case
 gives p a b = record { number = p; holds = same_answer a b }

@@ -1,10 +1,10 @@
 -- The code's comparisons, and the definitions'.
+use Rattle.std.specs.Prelude.{Some, None}
+use Rattle.std.specs.Prelude as Code
 use Rattle.std.proofs.Math.Option.{Option, none, some}
 use Rattle.value.specs.Value as Believed
 use Rattle.value.specs.declared.IntCmp as I
 use Rattle.value.specs.declared.FloatCmp as F
-use Rattle.value.specs.declared.IntComparison as Ic
-use Rattle.value.specs.declared.FloatComparison as Fc
 
 unfoldable pub int_cmp_of : I.IntCmp → Believed.IntCmp
 int_cmp_of I.TheVariants.Eq = Believed.Eq
@@ -47,10 +47,10 @@ ir_float_cmp Believed.FGt = F.TheVariants.Gt
 ir_float_cmp Believed.FGe = F.TheVariants.Ge
 
 -- the comparison that a number names, or none
-unfoldable pub int_comparison : Option Believed.IntCmp → Ic.IntComparison
-int_comparison none = Ic.TheVariants.Nothing
-int_comparison (some c) = Ic.TheVariants.Is (ir_int_cmp c)
+unfoldable pub int_comparison : Option Believed.IntCmp → Code.Option I.IntCmp
+int_comparison none = None
+int_comparison (some c) = Some (ir_int_cmp c)
 
-unfoldable pub float_comparison : Option Believed.FloatCmp → Fc.FloatComparison
-float_comparison none = Fc.TheVariants.Nothing
-float_comparison (some c) = Fc.TheVariants.Is (ir_float_cmp c)
+unfoldable pub float_comparison : Option Believed.FloatCmp → Code.Option F.FloatCmp
+float_comparison none = None
+float_comparison (some c) = Some (ir_float_cmp c)

@@ -1,5 +1,6 @@
 -- The code's own values, types and answers, as the values, kinds and answers that the definitions speak of.
-use Rattle.std.specs.Prelude.{ℕ, ◌^◌, ◌&&◌, List, ◌++◌, length, take, drop, eqb, ltb, leb}
+use Rattle.std.specs.Prelude.{ℕ, ◌^◌, ◌&&◌, List, ◌++◌, length, take, drop, eqb, ltb, leb, Result, Ok, Err, Some, None}
+use Rattle.std.specs.Prelude as Code
 use Rattle.std.proofs.Math.Bool as B
 use Rattle.std.proofs.Math.Option.{Option, none, some}
 use Rattle.std.specs.Float.{binary32, binary64}
@@ -12,16 +13,9 @@ use Rattle.value.specs.declared.IrValue.{IrValue}
 use Rattle.value.specs.declared.IrValue.TheVariants.{Bool, U8, U16, U32, U64, I8, I16, I32, I64, F32, F64, Char, Asn, Pointer}
 use Rattle.value.specs.Value as Believed
 use Rattle.value.specs.declared.IrType as T
-use Rattle.value.specs.declared.Tagged.{Tagged}
-use Rattle.value.specs.declared.Tagged.TheVariants as Tg
 use Rattle.value.specs.declared.Single as S
 use Rattle.value.specs.declared.Double as D
-use Rattle.value.specs.declared.Made.{Made}
-use Rattle.value.specs.declared.Made.TheVariants as M
-use Rattle.value.specs.declared.Loaded.{Loaded}
-use Rattle.value.specs.declared.Loaded.TheVariants as L
-use Rattle.value.specs.declared.Computed.{Computed}
-use Rattle.value.specs.declared.Computed.TheVariants as C
+use Rattle.value.specs.declared.refusal.Refusal.{Refusal}
 
 -- a value's kind and bits: two's complement where the kind is signed, the pattern where it is a float
 unfoldable pub value_of : IrValue → Value
@@ -61,9 +55,9 @@ abbrev pub ir_value : Value → IrValue
 ir_value v = ir_of v.kind v.bits
 
 -- the value of a tag's kind and bits, where there is one
-unfoldable pub made : Option Kind → ℕ → Made
-made none b = M.Nothing
-made (some k) b = pick (holds k b) (M.Value (ir_of k b)) M.Nothing
+unfoldable pub made : Option Kind → ℕ → Code.Option IrValue
+made none b = None
+made (some k) b = pick (holds k b) (Some (ir_of k b)) None
 
 -- A value that is some kind's and bits'. The enum holds more: a `Number` that is a NaN, a `Nan` with a number's bits, a Char that is no scalar value.
 abbrev pub own_single : S.Single → B.Bool
@@ -120,14 +114,14 @@ ir_type Believed.F64 = T.TheVariants.F64
 ir_type Believed.Pointer = T.TheVariants.Pointer
 
 -- the type that a tag names, or none
-unfoldable pub tagged : Option Believed.IrType → Tagged
-tagged none = Tg.Nothing
-tagged (some t) = Tg.Type (ir_type t)
+unfoldable pub tagged : Option Believed.IrType → Code.Option T.IrType
+tagged none = None
+tagged (some t) = Some (ir_type t)
 
 -- what an operation answers: its value, or the refusal
-unfoldable pub computed : Answer Value → Computed
-computed (ok v) = C.Value (ir_value v)
-computed (refused n) = C.Refused n
+unfoldable pub computed : Answer Value → Result IrValue Refusal
+computed (ok v) = Ok (ir_value v)
+computed (refused n) = Err n
 
 -- ---- bytes
 
@@ -135,10 +129,6 @@ computed (refused n) = C.Refused n
 abbrev pub written : List ℕ → List ℕ → List ℕ
 written bs to = pick (leb (length bs) (length to)) (bs ++ drop (length bs) to) to
 
-unfoldable pub answered : Answer Value → Loaded
-answered (ok v) = L.Value (ir_value v)
-answered (refused n) = L.Refused n
-
 -- the value of a type at the front of these bytes, where they are enough
-unfoldable pub loaded : Believed.IrType → List ℕ → Loaded
-loaded t bs = let n = size (kind_of t) in pick (leb n (length bs)) (answered (from_bytes t (take n bs))) L.Short
+unfoldable pub loaded : Believed.IrType → List ℕ → Code.Option (Result IrValue Refusal)
+loaded t bs = let n = size (kind_of t) in pick (leb n (length bs)) (Some (computed (from_bytes t (take n bs)))) None

@@ -4,7 +4,7 @@ ghost use Rattle.value.specs.Value.{tag, size, is_scalar};
 ghost use Rattle.value.specs.Tags.{kind_at, held};
 ghost use Rattle.value.specs.Ir.{value_of, made};
 
-use crate::{Double, IrType, IrValue, Made, Single, signed};
+use crate::{Double, IrType, IrValue, Single};
 
 impl IrValue {
     // The tags of the two kinds that are no types.
@@ -12,6 +12,7 @@ impl IrValue {
 
     pub const ASN_TAG: u64 = 13;
 
+    #[tactic(auto, unfolding(crate::specs::Ir::value_of, crate::specs::Value::tag))]
     pub fn tag(self) -> u64
         ensures { result ≡ tag (value_of self).kind }
     {
@@ -34,28 +35,24 @@ impl IrValue {
     }
 
     // How many bytes the value takes.
+    #[tactic(auto, unfolding(crate::specs::Ir::value_of, crate::specs::Value::size))]
     pub fn size(self) -> usize
         ensures { result ≡ size (value_of self).kind }
     {
         match self {
-            IrValue::Bool(_) => 1,
-            IrValue::U8(_) => 1,
-            IrValue::U16(_) => 2,
-            IrValue::U32(_) => 4,
-            IrValue::U64(_) => 8,
-            IrValue::I8(_) => 1,
-            IrValue::I16(_) => 2,
-            IrValue::I32(_) => 4,
-            IrValue::I64(_) => 8,
-            IrValue::F32(_) => 4,
-            IrValue::F64(_) => 8,
-            IrValue::Char(_) => 4,
-            IrValue::Asn(_) => 4,
-            IrValue::Pointer(_) => 8,
+            IrValue::Bool(_) | IrValue::U8(_) | IrValue::I8(_) => 1,
+            IrValue::U16(_) | IrValue::I16(_) => 2,
+            IrValue::U32(_)
+            | IrValue::I32(_)
+            | IrValue::F32(_)
+            | IrValue::Char(_)
+            | IrValue::Asn(_) => 4,
+            IrValue::U64(_) | IrValue::I64(_) | IrValue::F64(_) | IrValue::Pointer(_) => 8,
         }
     }
 
     // The bits as an unsigned number: two's complement, or a float's pattern.
+    #[tactic(auto, unfolding(crate::specs::Ir::value_of))]
     pub fn bits(self) -> u64
         ensures { result ≡ (value_of self).bits }
     {
@@ -63,21 +60,19 @@ impl IrValue {
             IrValue::Bool(b) => b as u64,
             IrValue::U8(n) => n as u64,
             IrValue::U16(n) => n as u64,
-            IrValue::U32(n) => n as u64,
-            IrValue::U64(n) => n,
-            IrValue::I8(z) => signed::bits8(z) as u64,
-            IrValue::I16(z) => signed::bits16(z) as u64,
-            IrValue::I32(z) => signed::bits32(z) as u64,
-            IrValue::I64(z) => signed::bits64(z),
+            IrValue::U32(n) | IrValue::Char(n) | IrValue::Asn(n) => n as u64,
+            IrValue::U64(n) | IrValue::Pointer(n) => n,
+            IrValue::I8(z) => z.cast_unsigned() as u64,
+            IrValue::I16(z) => z.cast_unsigned() as u64,
+            IrValue::I32(z) => z.cast_unsigned() as u64,
+            IrValue::I64(z) => z.cast_unsigned(),
             IrValue::F32(x) => x.to_bits() as u64,
             IrValue::F64(x) => x.to_bits(),
-            IrValue::Char(n) => n as u64,
-            IrValue::Asn(n) => n as u64,
-            IrValue::Pointer(n) => n,
         }
     }
 
     // Whether these are the bits of a value with this tag.
+    #[tactic(auto, unfolding(crate::specs::Value::tag, crate::specs::Tags::named, crate::specs::Tags::kind_at, crate::specs::Tags::holds, crate::specs::Tags::held))]
     pub fn fits(number: u64, bits: u64) -> bool
         ensures { result ≡ held (kind_at number) bits }
     {
@@ -94,13 +89,29 @@ impl IrValue {
     }
 
     // The value of a tag and bits, where there is one.
-    pub fn from_bits(number: u64, bits: u64) -> Made
+    #[tactic(auto, unfolding(crate::specs::Value::tag, crate::specs::Tags::named, crate::specs::Tags::kind_at, crate::specs::Tags::holds, crate::specs::Tags::held, crate::specs::Ir::made, crate::specs::Ir::ir_of))]
+    pub fn from_bits(number: u64, bits: u64) -> Option<IrValue>
         ensures { result ≡ made (kind_at number) bits }
     {
-        if IrValue::fits(number, bits) {
-            make(number, bits)
-        } else {
-            Made::Nothing
+        if !IrValue::fits(number, bits) {
+            return None;
+        }
+        match number {
+            IrType::BOOL_TAG => Some(IrValue::Bool(bits != 0)),
+            IrType::U8_TAG => Some(IrValue::U8(bits as u8)),
+            IrType::U16_TAG => Some(IrValue::U16(bits as u16)),
+            IrType::U32_TAG => Some(IrValue::U32(bits as u32)),
+            IrType::U64_TAG => Some(IrValue::U64(bits)),
+            IrType::I8_TAG => Some(IrValue::I8((bits as u8).cast_signed())),
+            IrType::I16_TAG => Some(IrValue::I16((bits as u16).cast_signed())),
+            IrType::I32_TAG => Some(IrValue::I32((bits as u32).cast_signed())),
+            IrType::I64_TAG => Some(IrValue::I64(bits.cast_signed())),
+            IrType::F32_TAG => Some(IrValue::F32(Single::from_bits(bits as u32))),
+            IrType::F64_TAG => Some(IrValue::F64(Double::from_bits(bits))),
+            IrValue::CHAR_TAG => Some(IrValue::Char(bits as u32)),
+            IrValue::ASN_TAG => Some(IrValue::Asn(bits as u32)),
+            IrType::POINTER_TAG => Some(IrValue::Pointer(bits)),
+            _ => None,
         }
     }
 }
@@ -110,34 +121,5 @@ impl IrValue {
 fn is_scalar(bits: u64) -> bool
     ensures { result ≡ is_scalar bits }
 {
-    if bits <= 0xd7ff {
-        return true;
-    }
-    if bits < 0xe000 {
-        return false;
-    }
-    bits <= 0x10_ffff
-}
-
-fn make(number: u64, bits: u64) -> Made
-    requires { held (kind_at number) bits ≡ true }
-    ensures { result ≡ made (kind_at number) bits }
-{
-    match number {
-        IrType::BOOL_TAG => Made::Value(IrValue::Bool(bits != 0)),
-        IrType::U8_TAG => Made::Value(IrValue::U8(bits as u8)),
-        IrType::U16_TAG => Made::Value(IrValue::U16(bits as u16)),
-        IrType::U32_TAG => Made::Value(IrValue::U32(bits as u32)),
-        IrType::U64_TAG => Made::Value(IrValue::U64(bits)),
-        IrType::I8_TAG => Made::Value(IrValue::I8(signed::integer8(bits as u8))),
-        IrType::I16_TAG => Made::Value(IrValue::I16(signed::integer16(bits as u16))),
-        IrType::I32_TAG => Made::Value(IrValue::I32(signed::integer32(bits as u32))),
-        IrType::I64_TAG => Made::Value(IrValue::I64(signed::integer64(bits))),
-        IrType::F32_TAG => Made::Value(IrValue::F32(Single::from_bits(bits as u32))),
-        IrType::F64_TAG => Made::Value(IrValue::F64(Double::from_bits(bits))),
-        IrValue::CHAR_TAG => Made::Value(IrValue::Char(bits as u32)),
-        IrValue::ASN_TAG => Made::Value(IrValue::Asn(bits as u32)),
-        IrType::POINTER_TAG => Made::Value(IrValue::Pointer(bits)),
-        _ => Made::Nothing,
-    }
+    matches!(bits, 0..=0xd7ff | 0xe000..=0x10_ffff)
 }

@@ -1,13 +1,13 @@
-// Floats by their bits: patterns in and out.
+// Floats by their bits: patterns in and out. Two types and no generic one: std's `from_bits` and `to_bits` are no trait's, so a trait over
+// f32 and f64 would need these same bodies at both.
 ghost use Rattle.std.specs.Prelude.{◌≡◌};
-ghost use Rattle.std.specs.Float.{binary32, binary64};
-ghost use Rattle.std.specs.Float.Ieee.{to_bits};
 ghost use Rattle.value.specs.Floats.{bits32, bits64, single, double};
 
 use crate::{Double, Single};
 
 impl Single {
     // The float of a pattern: a NaN's is kept as it is.
+    #[tactic(auto, using(crate::proofs::Patterns::pattern_tests))]
     pub fn from_bits(bits: u32) -> Single
         ensures { result ≡ single bits }
     {
@@ -18,18 +18,20 @@ impl Single {
         }
     }
 
-    // The pattern of a float.
+    // The pattern of a float, and the canonical one where the machine's float is a NaN.
     pub fn to_bits(self) -> u32
         ensures { result ≡ bits32 self }
     {
         match self {
-            Single::Number(x) => pattern32(x),
+            Single::Number(x) if x.is_nan() => 0x7fc0_0000,
+            Single::Number(x) => x.to_bits(),
             Single::Nan(bits) => bits,
         }
     }
 }
 
 impl Double {
+    #[tactic(auto, using(crate::proofs::Patterns::pattern_tests))]
     pub fn from_bits(bits: u64) -> Double
         ensures { result ≡ double bits }
     {
@@ -44,25 +46,9 @@ impl Double {
         ensures { result ≡ bits64 self }
     {
         match self {
-            Double::Number(x) => pattern64(x),
+            Double::Number(x) if x.is_nan() => 0x7ff8_0000_0000_0000,
+            Double::Number(x) => x.to_bits(),
             Double::Nan(bits) => bits,
         }
-    }
-}
-
-// The pattern of a machine's float, and the canonical one where it is a NaN.
-fn pattern32(x: f32) -> u32
-    ensures { result ≡ to_bits binary32 x }
-{
-    if x != x { 0x7fc0_0000 } else { f32::to_bits(x) }
-}
-
-fn pattern64(x: f64) -> u64
-    ensures { result ≡ to_bits binary64 x }
-{
-    if x != x {
-        0x7ff8_0000_0000_0000
-    } else {
-        f64::to_bits(x)
     }
 }

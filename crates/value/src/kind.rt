@@ -4,90 +4,72 @@ ghost use Rattle.value.specs.Value.{kind_of, tag, size};
 ghost use Rattle.value.specs.Tags.{type_at};
 ghost use Rattle.value.specs.Ir.{type_of, tagged};
 
-use crate::{IrType, Tagged};
+use crate::IrType;
 
 impl IrType {
-    pub const BOOL_TAG: u64 = 1;
+    pub const BOOL_TAG: u64 = IrType::Bool as u64;
 
-    pub const U8_TAG: u64 = 2;
+    pub const U8_TAG: u64 = IrType::U8 as u64;
 
-    pub const U16_TAG: u64 = 3;
+    pub const U16_TAG: u64 = IrType::U16 as u64;
 
-    pub const U32_TAG: u64 = 4;
+    pub const U32_TAG: u64 = IrType::U32 as u64;
 
-    pub const U64_TAG: u64 = 5;
+    pub const U64_TAG: u64 = IrType::U64 as u64;
 
-    pub const I8_TAG: u64 = 6;
+    pub const I8_TAG: u64 = IrType::I8 as u64;
 
-    pub const I16_TAG: u64 = 7;
+    pub const I16_TAG: u64 = IrType::I16 as u64;
 
-    pub const I32_TAG: u64 = 8;
+    pub const I32_TAG: u64 = IrType::I32 as u64;
 
-    pub const I64_TAG: u64 = 9;
+    pub const I64_TAG: u64 = IrType::I64 as u64;
 
-    pub const F32_TAG: u64 = 10;
+    pub const F32_TAG: u64 = IrType::F32 as u64;
 
-    pub const F64_TAG: u64 = 11;
+    pub const F64_TAG: u64 = IrType::F64 as u64;
 
-    pub const POINTER_TAG: u64 = 14;
+    pub const POINTER_TAG: u64 = IrType::Pointer as u64;
 
-    // The type that a tag names.
-    pub fn from_tag(number: u64) -> Tagged
+    // The type that a tag names: an associated function, as document 01 asks, and so no `TryFrom`.
+    #[tactic(auto, unfolding(crate::specs::Value::tag, crate::specs::Tags::named, crate::specs::Tags::kind_at, crate::specs::Tags::type_of_kind, crate::specs::Tags::typed, crate::specs::Ir::ir_type, crate::specs::Ir::tagged))]
+    pub fn from_tag(number: u64) -> Option<IrType>
         ensures { result ≡ tagged (type_at number) }
     {
         match number {
-            IrType::BOOL_TAG => Tagged::Type(IrType::Bool),
-            IrType::U8_TAG => Tagged::Type(IrType::U8),
-            IrType::U16_TAG => Tagged::Type(IrType::U16),
-            IrType::U32_TAG => Tagged::Type(IrType::U32),
-            IrType::U64_TAG => Tagged::Type(IrType::U64),
-            IrType::I8_TAG => Tagged::Type(IrType::I8),
-            IrType::I16_TAG => Tagged::Type(IrType::I16),
-            IrType::I32_TAG => Tagged::Type(IrType::I32),
-            IrType::I64_TAG => Tagged::Type(IrType::I64),
-            IrType::F32_TAG => Tagged::Type(IrType::F32),
-            IrType::F64_TAG => Tagged::Type(IrType::F64),
-            IrType::POINTER_TAG => Tagged::Type(IrType::Pointer),
-            _ => Tagged::Nothing,
+            IrType::BOOL_TAG => Some(IrType::Bool),
+            IrType::U8_TAG => Some(IrType::U8),
+            IrType::U16_TAG => Some(IrType::U16),
+            IrType::U32_TAG => Some(IrType::U32),
+            IrType::U64_TAG => Some(IrType::U64),
+            IrType::I8_TAG => Some(IrType::I8),
+            IrType::I16_TAG => Some(IrType::I16),
+            IrType::I32_TAG => Some(IrType::I32),
+            IrType::I64_TAG => Some(IrType::I64),
+            IrType::F32_TAG => Some(IrType::F32),
+            IrType::F64_TAG => Some(IrType::F64),
+            IrType::POINTER_TAG => Some(IrType::Pointer),
+            _ => None,
         }
     }
 
+    #[tactic(auto, unfolding(crate::specs::Ir::type_of, crate::specs::Value::kind_of, crate::specs::Value::tag))]
     pub fn tag(self) -> u64
         ensures { result ≡ tag (kind_of (type_of self)) }
     {
-        match self {
-            IrType::Bool => IrType::BOOL_TAG,
-            IrType::U8 => IrType::U8_TAG,
-            IrType::U16 => IrType::U16_TAG,
-            IrType::U32 => IrType::U32_TAG,
-            IrType::U64 => IrType::U64_TAG,
-            IrType::I8 => IrType::I8_TAG,
-            IrType::I16 => IrType::I16_TAG,
-            IrType::I32 => IrType::I32_TAG,
-            IrType::I64 => IrType::I64_TAG,
-            IrType::F32 => IrType::F32_TAG,
-            IrType::F64 => IrType::F64_TAG,
-            IrType::Pointer => IrType::POINTER_TAG,
-        }
+        self as u64
     }
 
     // How many bytes a value of the type takes.
+    #[tactic(auto, unfolding(crate::specs::Ir::type_of, crate::specs::Value::kind_of, crate::specs::Value::size))]
     pub fn size(self) -> usize
         ensures { result ≡ size (kind_of (type_of self)) }
     {
         match self {
-            IrType::Bool => 1,
-            IrType::U8 => 1,
-            IrType::U16 => 2,
-            IrType::U32 => 4,
-            IrType::U64 => 8,
-            IrType::I8 => 1,
-            IrType::I16 => 2,
-            IrType::I32 => 4,
-            IrType::I64 => 8,
-            IrType::F32 => 4,
-            IrType::F64 => 8,
-            IrType::Pointer => 8,
+            IrType::Bool | IrType::U8 | IrType::I8 => 1,
+            IrType::U16 | IrType::I16 => 2,
+            IrType::U32 | IrType::I32 | IrType::F32 => 4,
+            IrType::U64 | IrType::I64 | IrType::F64 | IrType::Pointer => 8,
         }
     }
 }

@@ -7,10 +7,9 @@ mod compare;
 mod float;
 mod kind;
 pub mod refusal;
-mod signed;
 
 // A Roto value. A `Single` or a `Double` stands where the Rust has an f32 or an f64, so that every NaN keeps its bits.
-#[derive(Clone, Copy)]
+#[derive(Clone, Copy, Debug)]
 pub enum IrValue {
     Bool(bool),
     U8(u8),
@@ -28,66 +27,37 @@ pub enum IrValue {
     Pointer(u64),
 }
 
-#[derive(Clone, Copy)]
+#[derive(Clone, Copy, Debug)]
 pub enum Single {
     Number(f32),
     Nan(u32),
 }
 
-#[derive(Clone, Copy)]
+#[derive(Clone, Copy, Debug)]
 pub enum Double {
     Number(f64),
     Nan(u64),
 }
 
 // The types for `IrValue`s.
-#[derive(Clone, Copy)]
+#[derive(Clone, Copy, Debug, PartialEq, Eq)]
 pub enum IrType {
-    Bool,
-    U8,
-    U16,
-    U32,
-    U64,
-    I8,
-    I16,
-    I32,
-    I64,
-    F32,
-    F64,
-    Pointer,
-}
-
-// What an operation answers: its value, or the number of the first of its checks that fails.
-#[derive(Clone, Copy)]
-pub enum Computed {
-    Value(IrValue),
-    Refused(u64),
-}
-
-// What a tag names.
-#[derive(Clone, Copy)]
-pub enum Tagged {
-    Type(IrType),
-    Nothing,
-}
-
-// What a tag and bits are.
-#[derive(Clone, Copy)]
-pub enum Made {
-    Value(IrValue),
-    Nothing,
-}
-
-// What bytes are: a value, a refusal, or too few.
-#[derive(Clone, Copy)]
-pub enum Loaded {
-    Value(IrValue),
-    Refused(u64),
-    Short,
+    Bool = 1,
+    U8 = 2,
+    U16 = 3,
+    U32 = 4,
+    U64 = 5,
+    I8 = 6,
+    I16 = 7,
+    I32 = 8,
+    I64 = 9,
+    F32 = 10,
+    F64 = 11,
+    Pointer = 14,
 }
 
 // The comparisons of IntCmp and of FloatCmp, in the order of their numbers.
-#[derive(Clone, Copy)]
+#[derive(Clone, Copy, Debug, PartialEq, Eq)]
 pub enum IntCmp {
     Eq,
     Ne,
@@ -101,7 +71,7 @@ pub enum IntCmp {
     SGe,
 }
 
-#[derive(Clone, Copy)]
+#[derive(Clone, Copy, Debug, PartialEq, Eq)]
 pub enum FloatCmp {
     Eq,
     Ne,
@@ -109,17 +79,4 @@ pub enum FloatCmp {
     Le,
     Gt,
     Ge,
-}
-
-// What a number names.
-#[derive(Clone, Copy)]
-pub enum IntComparison {
-    Is(IntCmp),
-    Nothing,
-}
-
-#[derive(Clone, Copy)]
-pub enum FloatComparison {
-    Is(FloatCmp),
-    Nothing,
 }

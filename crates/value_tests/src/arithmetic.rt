@@ -1,96 +1,101 @@
 // Add, Sub, Mul, Div, Mod and Negate: 8 bits whole, and the ends of each width.
-use crate::{digest, edges, say};
+use crate::digest::Digest;
+use crate::edges;
 use operations::integer::{add, div, mul, negate, rem, sub};
-use std::io;
-use value::{Computed, IrType, IrValue, Made};
+use std::{fmt, io};
+use value::refusal::Refusal;
+use value::{IrType, IrValue};
 
-fn compute(operation: u64, x: IrValue, y: IrValue) -> Computed {
-    match operation {
-        0 => add(x, y),
-        1 => sub(x, y),
-        2 => mul(x, y),
-        3 => div(x, y),
-        4 => rem(x, y),
-        _ => negate(x),
+// A line has the operation by its number.
+#[derive(Clone, Copy)]
+enum Operation {
+    Add,
+    Sub,
+    Mul,
+    Div,
+    Rem,
+    Negate,
+}
+
+const OPERATIONS: [Operation; 6] = [
+    Operation::Add,
+    Operation::Sub,
+    Operation::Mul,
+    Operation::Div,
+    Operation::Rem,
+    Operation::Negate,
+];
+
+impl Operation {
+    fn compute(self, x: IrValue, y: IrValue) -> Result<IrValue, Refusal> {
+        match self {
+            Operation::Add => add(x, y),
+            Operation::Sub => sub(x, y),
+            Operation::Mul => mul(x, y),
+            Operation::Div => div(x, y),
+            Operation::Rem => rem(x, y),
+            Operation::Negate => negate(x),
+        }
     }
 }
 
-fn answer(h: u64, operation: u64, tag: u64, a: u64, b: u64) -> u64 {
-    let Made::Value(x) = IrValue::from_bits(tag, a) else {
-        return digest::add(h, 15);
-    };
-    let Made::Value(y) = IrValue::from_bits(tag, b) else {
-        return digest::add(h, 15);
-    };
-    digest::answer(h, compute(operation, x, y))
+impl fmt::Display for Operation {
+    fn fmt<W: fmt::Write>(&self, f: &mut fmt::Formatter<W>) -> fmt::Result {
+        write!(f, "operation {}", *self as u64)
+    }
+}
+
+fn answer(h: Digest, operation: Operation, tag: u64, a: u64, b: u64) -> Digest {
+    match (IrValue::from_bits(tag, a), IrValue::from_bits(tag, b)) {
+        (Some(x), Some(y)) => h.answer(operation.compute(x, y)),
+        _ => h.nothing(),
+    }
 }
 
 // All pairs of 8 bits.
-fn whole(operation: u64, tag: u64) -> u64 {
-    let mut h = 0u64;
-    let mut n = 0u64;
-    while n < 65536 {
-        h = answer(h, operation, tag, n / 256, n % 256);
-        n += 1;
-    }
-    h
+fn whole(operation: Operation, tag: u64) -> Digest {
+    (0..0x1_0000u64).fold(Digest::EMPTY, |h, n| {
+        answer(h, operation, tag, n / 256, n % 256)
+    })
 }
 
 // All pairs of a kind's edges.
-fn ends(operation: u64, tag: u64) -> u64 {
-    let mut h = 0u64;
-    let mut n = 0u64;
-    while n < 256 {
-        h = answer(
-            h,
-            operation,
-            tag,
-            edges::integer(tag, n / 16),
-            edges::integer(tag, n % 16),
-        );
-        n += 1;
+fn ends(operation: Operation, tag: u64) -> Digest {
+    let edges = edges::of_kind(tag);
+    edges.iter().fold(Digest::EMPTY, |h, a| {
+        edges
+            .iter()
+            .fold(h, |h, b| answer(h, operation, tag, *a, *b))
+    })
+}
+
+fn print_whole(rt: &impl Print, operation: Operation) -> io::Result<()> {
+    for tag in [IrType::U8_TAG, IrType::I8_TAG] {
+        println!(rt;
+            "8 bits whole: tag {tag} {operation} {}",
+            whole(operation, tag)
+        )?;
     }
-    h
+    Ok(())
 }
 
-fn label(rt: &impl Print, words: &str, operation: u64, tag: u64) -> io::Result<()> {
-    say::text(rt, words)?;
-    say::text(rt, " tag ")?;
-    say::number(rt, tag)?;
-    say::text(rt, " operation ")?;
-    say::number(rt, operation)
-}
-
-fn print_whole(rt: &impl Print, operation: u64, tag: u64) -> io::Result<()> {
-    label(rt, "8 bits whole:", operation, tag)?;
-    say::digest(rt, whole(operation, tag))
-}
-
-fn print_ends(rt: &impl Print, operation: u64, tag: u64) -> io::Result<()> {
-    label(rt, "ends:", operation, tag)?;
-    say::digest(rt, ends(operation, tag))
-}
-
-fn print_all_whole(rt: &impl Print) -> io::Result<()> {
-    let mut operation = 0u64;
-    while operation < 6 {
-        print_whole(rt, operation, IrType::U8_TAG)?;
-        print_whole(rt, operation, IrType::I8_TAG)?;
-        operation += 1;
+fn print_ends(rt: &impl Print, tag: u64) -> io::Result<()> {
+    for operation in OPERATIONS {
+        println!(rt; "ends: tag {tag} {operation} {}", ends(operation, tag))?;
     }
     Ok(())
 }
 
 fn print_all_ends(rt: &impl Print) -> io::Result<()> {
-    let mut n = 0u64;
-    while n < 48 {
-        print_ends(rt, n % 6, n / 6 + 2)?;
-        n += 1;
+    for tag in IrType::U8_TAG..=IrType::I64_TAG {
+        print_ends(rt, tag)?;
     }
     Ok(())
 }
 
 pub fn run(rt: &impl Print) -> io::Result<()> {
-    print_all_whole(rt)?;
+    for operation in OPERATIONS {
+        print_whole(rt, operation)?;
+    }
     print_all_ends(rt)
 }

@@ -1,53 +1,41 @@
-// The ten comparisons of integers, over the edges of every pair of kinds.
-use crate::{digest, edges, say};
+// The ten comparisons of integers, over the edges of every pair of kinds, and a number that is none.
+use crate::digest::Digest;
+use crate::edges;
 use comparing::compare::int_cmp;
 use std::io;
-use value::{IntCmp, IntComparison, IrValue, Made};
+use value::{IntCmp, IrType, IrValue};
 
-fn answer(h: u64, number: u64, x: Made, y: Made) -> u64 {
-    let IntComparison::Is(cmp) = IntCmp::from_number(number) else {
-        return digest::add(h, 15);
-    };
-    let Made::Value(v) = x else {
-        return digest::add(h, 15);
-    };
-    let Made::Value(w) = y else {
-        return digest::add(h, 15);
-    };
-    digest::answer(h, int_cmp(cmp, v, w))
+fn answer(h: Digest, number: u64, x: Option<IrValue>, y: Option<IrValue>) -> Digest {
+    match (IntCmp::from_number(number), x, y) {
+        (Some(cmp), Some(v), Some(w)) => h.answer(int_cmp(cmp, v, w)),
+        _ => h.nothing(),
+    }
 }
 
 // All pairs of edges of two kinds.
-fn pairs(h: u64, number: u64, left: u64, right: u64) -> u64 {
-    let mut sum = h;
-    let mut n = 0u64;
-    while n < 256 {
-        let x = IrValue::from_bits(left, edges::bits(left, n / 16));
-        let y = IrValue::from_bits(right, edges::bits(right, n % 16));
-        sum = answer(sum, number, x, y);
-        n += 1;
-    }
-    sum
+fn pairs(h: Digest, number: u64, left: u64, right: u64) -> Digest {
+    let edges = edges::of_kind(right);
+    edges::of_kind(left).iter().fold(h, |h, a| {
+        let x = IrValue::from_bits(left, *a);
+        edges.iter().fold(
+            h,
+            |h, b| answer(h, number, x, IrValue::from_bits(right, *b)),
+        )
+    })
 }
 
 // All pairs of kinds.
-fn kinds(number: u64) -> u64 {
-    let mut h = 0u64;
-    let mut n = 0u64;
-    while n < 196 {
-        h = pairs(h, number, n / 14 + 1, n % 14 + 1);
-        n += 1;
-    }
-    h
+fn kinds(number: u64) -> Digest {
+    let tags = IrType::BOOL_TAG..=IrType::POINTER_TAG;
+    tags.fold(Digest::EMPTY, |h, left| {
+        let tags = IrType::BOOL_TAG..=IrType::POINTER_TAG;
+        tags.fold(h, |h, right| pairs(h, number, left, right))
+    })
 }
 
 pub fn run(rt: &impl Print) -> io::Result<()> {
-    let mut number = 0u64;
-    while number < 11 {
-        say::text(rt, "comparison ")?;
-        say::number(rt, number)?;
-        say::digest(rt, kinds(number))?;
-        number += 1;
+    for number in 0..=10 {
+        println!(rt; "comparison {number} {}", kinds(number))?;
     }
     Ok(())
 }

@@ -1,32 +1,44 @@
-// A digest of numbers, one after another, and the digest of an answer.
-use value::{Computed, IrValue, Made};
+// A digest of numbers, one after another: each method gives the digest with what it is called on.
+use std::fmt;
+use value::IrValue;
+use value::refusal::Refusal;
 
 const PRIME: u64 = 4_294_967_291;
 
-fn mix(h: u64, part: u64) -> u64 {
-    ((h % PRIME) * 65_599 + part % 0x1_0000_0000) % PRIME
-}
+#[derive(Clone, Copy)]
+pub struct Digest(pub u64);
 
-pub fn add(h: u64, n: u64) -> u64 {
-    mix(mix(h, n / 0x1_0000_0000), n)
-}
+impl Digest {
+    pub const EMPTY: Digest = Digest(0);
 
-pub fn value(h: u64, v: IrValue) -> u64 {
-    add(add(h, v.tag()), v.bits())
-}
+    fn mix(self, part: u64) -> Digest {
+        Digest(((self.0 % PRIME) * 65_599 + part % 0x1_0000_0000) % PRIME)
+    }
 
-// A refusal counts as tag 0 and its number.
-pub fn answer(h: u64, c: Computed) -> u64 {
-    match c {
-        Computed::Value(v) => value(h, v),
-        Computed::Refused(n) => add(add(h, 0), n),
+    pub fn add(self, n: u64) -> Digest {
+        self.mix(n / 0x1_0000_0000).mix(n)
+    }
+
+    pub fn value(self, v: IrValue) -> Digest {
+        self.add(v.tag()).add(v.bits())
+    }
+
+    // A refusal counts as tag 0 and its number.
+    pub fn answer(self, c: Result<IrValue, Refusal>) -> Digest {
+        match c {
+            Ok(v) => self.value(v),
+            Err(n) => self.add(0).add(n.number()),
+        }
+    }
+
+    // What makes no value counts as tag 15.
+    pub fn nothing(self) -> Digest {
+        self.add(15)
     }
 }
 
-// What makes no value counts as tag 15.
-pub fn made(h: u64, m: Made) -> u64 {
-    match m {
-        Made::Value(v) => value(h, v),
-        Made::Nothing => add(add(h, 15), 0),
+impl fmt::Display for Digest {
+    fn fmt<W: fmt::Write>(&self, f: &mut fmt::Formatter<W>) -> fmt::Result {
+        write!(f, "digest {:08x}", self.0)
     }
 }

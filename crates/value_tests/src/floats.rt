@@ -3,36 +3,38 @@ use crate::line::Line;
 use comparing::compare::float_cmp;
 use operations::float::fdiv;
 use operations::integer::negate;
-use value::{Computed, FloatCmp, IrType, IrValue, Made};
+use value::refusal::Refusal;
+use value::{FloatCmp, IrType, IrValue};
 
-// The operations' names, as the line's letters make them.
-const DIV: u64 = 0x64_6976;
+// An operation by its name, as the line's letters make it a number.
+#[derive(Clone, Copy)]
+enum Operation {
+    Divide,
+    Negate,
+    Compare(FloatCmp),
+}
 
-const NEG: u64 = 0x6e_6567;
+impl Operation {
+    fn from_name(name: u64) -> Option<Operation> {
+        match name {
+            0x64_6976 => Some(Operation::Divide),
+            0x6e_6567 => Some(Operation::Negate),
+            0x6571 => Some(Operation::Compare(FloatCmp::Eq)),
+            0x6e65 => Some(Operation::Compare(FloatCmp::Ne)),
+            0x6c74 => Some(Operation::Compare(FloatCmp::Lt)),
+            0x6c65 => Some(Operation::Compare(FloatCmp::Le)),
+            0x6774 => Some(Operation::Compare(FloatCmp::Gt)),
+            0x6765 => Some(Operation::Compare(FloatCmp::Ge)),
+            _ => None,
+        }
+    }
 
-const EQ: u64 = 0x6571;
-
-const NE: u64 = 0x6e65;
-
-const LT: u64 = 0x6c74;
-
-const LE: u64 = 0x6c65;
-
-const GT: u64 = 0x6774;
-
-const GE: u64 = 0x6765;
-
-fn compute(operation: u64, x: IrValue, y: IrValue) -> Computed {
-    match operation {
-        DIV => fdiv(x, y),
-        NEG => negate(x),
-        EQ => float_cmp(FloatCmp::Eq, x, y),
-        NE => float_cmp(FloatCmp::Ne, x, y),
-        LT => float_cmp(FloatCmp::Lt, x, y),
-        LE => float_cmp(FloatCmp::Le, x, y),
-        GT => float_cmp(FloatCmp::Gt, x, y),
-        GE => float_cmp(FloatCmp::Ge, x, y),
-        _ => Computed::Refused(0),
+    fn compute(self, x: IrValue, y: IrValue) -> Result<IrValue, Refusal> {
+        match self {
+            Operation::Divide => fdiv(x, y),
+            Operation::Negate => negate(x),
+            Operation::Compare(cmp) => float_cmp(cmp, x, y),
+        }
     }
 }
 
@@ -44,42 +46,35 @@ fn tag(width: u64) -> u64 {
     }
 }
 
-// The tag and bits that the line gives as the answer.
-fn expected_tag(line: Line) -> u64 {
-    let operation = line.name;
+// The tag and bits that the line gives as the answer: of a negation they follow its one operand.
+fn expected(operation: Operation, line: Line) -> (u64, u64) {
+    let [_, width, _, second, third, _, _, _] = line.fields;
+    let answer = match (line.odd, width) {
+        (true, 0x32) => 0x7fc0_0000,
+        (true, _) => 0x7ff8_0000_0000_0000,
+        (false, _) => third,
+    };
     match operation {
-        DIV | NEG => tag(line.second),
-        _ => IrType::BOOL_TAG,
+        Operation::Divide => (tag(width), answer),
+        Operation::Negate => (tag(width), second),
+        Operation::Compare(_) => (IrType::BOOL_TAG, answer),
     }
 }
 
-fn expected_bits(line: Line) -> u64 {
-    if line.name == NEG {
-        return line.fourth;
-    }
-    if line.odd {
-        if line.second == 0x32 {
-            return 0x7fc0_0000;
-        }
-        return 0x7ff8_0000_0000_0000;
-    }
-    line.fifth
+fn answered(operation: Operation, line: Line) -> Option<IrValue> {
+    let [_, width, first, second, _, _, _, _] = line.fields;
+    let x = IrValue::from_bits(tag(width), first)?;
+    let y = IrValue::from_bits(tag(width), second)?;
+    operation.compute(x, y).ok()
 }
 
 // Whether the line's answer is ours.
 pub fn agrees(line: Line) -> bool {
-    let Made::Value(x) = IrValue::from_bits(tag(line.second), line.third) else {
+    let Some(operation) = Operation::from_name(line.name) else {
         return false;
     };
-    let Made::Value(y) = IrValue::from_bits(tag(line.second), line.fourth) else {
-        return false;
-    };
-    let Computed::Value(v) = compute(line.name, x, y) else {
-        return false;
-    };
-    if v.tag() == expected_tag(line) {
-        v.bits() == expected_bits(line)
-    } else {
-        false
+    match answered(operation, line) {
+        Some(v) => (v.tag(), v.bits()) == expected(operation, line),
+        None => false,
     }
 }

@@ -4,29 +4,40 @@ use crate::line::Line;
 use instruction::compute::{binary, unary};
 use instruction::step::key;
 use instruction::variables::Found;
+use value::IrValue;
+use value::refusal::Refusal;
 
-fn compute(opcode: u64, how: u64, x: Found, y: Found) -> Found {
+fn compute(opcode: u64, how: u64, x: Found, y: Found) -> Result<Found, Refusal> {
     match opcode {
-        1 => key(x),
+        1 => key(x).map(|bits| Found { tag: x.tag, bits }),
         14 | 15 => unary(opcode, x),
-        _ => binary(opcode, how, x, y),
+        _ => binary(opcode, how, x, Ok(y)),
     }
+}
+
+// The answer's kind and bits. An operand of kind 0 is a refusal, and so the answer where it is the first that is no value.
+fn answer(opcode: u64, how: u64, x: Found, y: Found) -> (u64, u64) {
+    if x.tag == 0 {
+        return (0, x.bits);
+    }
+    match compute(opcode, how, x, y) {
+        Ok(v) => (v.tag, v.bits),
+        Err(_) if y.tag == 0 && is_value(x) && !matches!(opcode, 1 | 14 | 15) => (0, y.bits),
+        Err(n) => (0, n.number()),
+    }
+}
+
+fn is_value(x: Found) -> bool {
+    IrValue::from_bits(x.tag, x.bits).is_some()
 }
 
 // Whether the line's answer is ours.
 pub fn agrees(line: Line) -> bool {
-    let x = Found {
-        tag: line.third,
-        bits: line.fourth,
-    };
+    let [opcode, how, left, x, right, y, tag, bits] = line.fields;
+    let x = Found { tag: left, bits: x };
     let y = Found {
-        tag: line.fifth,
-        bits: line.sixth,
+        tag: right,
+        bits: y,
     };
-    let r = compute(line.first, line.second, x, y);
-    if r.tag == line.seventh {
-        r.bits == line.eighth
-    } else {
-        false
-    }
+    answer(opcode, how, x, y) == (tag, bits)
 }

@@ -12,7 +12,6 @@ mod floats;
 mod kinds;
 mod line;
 mod lists;
-mod say;
 
 use std::io;
 

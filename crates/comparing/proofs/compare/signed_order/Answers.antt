@@ -5,17 +5,17 @@ use Rattle.comparing.specs.Compare.{test_of}
 use Rattle.comparing.proofs.Comparing.{signed-left, signed_right, signed-both}
 use Rattle.comparing.proofs.compare.signed_order.Goals as goal
 
+pub returns-in-Some-Some : goal.returns-in-Some-Some
+returns-in-Some-Some c =
+    let A = c.args in
+    signed-both (test_of A.test) (value_of A.x) (value_of A.y) {a = c.in-Some-Some.a} {b = c.in-Some-Some.b} c.as_i64.ensures c.in-Some-Some.is-0 c.as_i64-2.ensures c.in-Some-Some.is-1 (search rules) (search rules) c.cmp.ensures c.passes.ensures
+
 pub returns-in_default : goal.returns-in_default
 returns-in_default c =
     let A = c.args in
-    signed-left (test_of A.test) (value_of A.x) (value_of A.y) c.as_i64.ensures c.in_default.is
+    signed_right (test_of A.test) (value_of A.x) (value_of A.y) c.as_i64-2.ensures c.in_default.is-1
 
-pub returns-in_default-as_i64 : goal.returns-in_default-as_i64
-returns-in_default-as_i64 c =
+pub returns-in_default-2 : goal.returns-in_default-2
+returns-in_default-2 c =
     let A = c.args in
-    signed_right (test_of A.test) (value_of A.x) (value_of A.y) c.as_i64-2.ensures c.in_default-as_i64.is
-
-pub returns : goal.returns
-returns c =
-    let A = c.args in
-    signed-both (test_of A.test) (value_of A.x) (value_of A.y) c.as_i64.ensures c.in-Is.is c.as_i64-2.ensures c.in-Is-as_i64.is (search rules) (search rules) c.integers.ensures c.truth.ensures
+    signed-left (test_of A.test) (value_of A.x) (value_of A.y) c.as_i64.ensures c.in_default.is-0

@@ -4,17 +4,17 @@ use Rattle.comparing.specs.Compare.{test_of}
 use Rattle.comparing.proofs.Comparing.{unsigned-left, unsigned_right, unsigned-both}
 use Rattle.comparing.proofs.compare.unsigned_order.Goals as goal
 
+pub returns-in-Some-Some : goal.returns-in-Some-Some
+returns-in-Some-Some c =
+    let A = c.args in
+    unsigned-both (test_of A.test) (value_of A.x) (value_of A.y) c.as_u64.ensures c.in-Some-Some.is-0 c.as_u64-2.ensures c.in-Some-Some.is-1 c.cmp.ensures c.passes.ensures
+
 pub returns-in_default : goal.returns-in_default
 returns-in_default c =
     let A = c.args in
-    unsigned-left (test_of A.test) (value_of A.x) (value_of A.y) c.as_u64.ensures c.in_default.is
+    unsigned_right (test_of A.test) (value_of A.x) (value_of A.y) c.as_u64-2.ensures c.in_default.is-1
 
-pub returns-in_default-as_u64 : goal.returns-in_default-as_u64
-returns-in_default-as_u64 c =
+pub returns-in_default-2 : goal.returns-in_default-2
+returns-in_default-2 c =
     let A = c.args in
-    unsigned_right (test_of A.test) (value_of A.x) (value_of A.y) c.as_u64-2.ensures c.in_default-as_u64.is
-
-pub returns : goal.returns
-returns c =
-    let A = c.args in
-    unsigned-both (test_of A.test) (value_of A.x) (value_of A.y) c.as_u64.ensures c.in-Is.is c.as_u64-2.ensures c.in-Is-as_u64.is c.naturals.ensures c.truth.ensures
+    unsigned-left (test_of A.test) (value_of A.x) (value_of A.y) c.as_u64.ensures c.in_default.is-0

@@ -4,4 +4,4 @@ use Rattle.value.proofs.Fields.{divide_is}
 use Rattle.operations.proofs.float.divide32.Goals as goal
 
 pub returns : goal.returns
-returns c = rw (c.to_bits.ensures, c.number32.ensures, c.number32-2.ensures) (divide_is binary32 _ _)
+returns c = rw (c.from_bits.ensures, c.f32_to_bits_with_nan.ensures, c.f32_from_bits_with_nan.ensures, c.f32_from_bits_with_nan-2.ensures, c.to_bits.ensures, c.to_bits-2.ensures, divide_is binary32 _ _)

@@ -1,59 +1,59 @@
--- `rem`: two signed integers of one width by the machine's remainder, and any other two by their bits.
+-- `rem`: two integers of one kind by std's checked remainder at its width, and no other two.
 use mathlib.Core.Path.{ap}
-use mathlib.Core.List.{[], ◌∷◌}
-use Rattle.value.specs.Ir.{value_of}
-use Rattle.value.specs.Value.{tag, same, i8, i16, i32, i64}
-use Rattle.value.specs.Value as Believed
-use Rattle.operations.proofs.Arithmetic.{unlike, machine, no_sign}
-use Rattle.value.proofs.Leftover.{rest, left_over_lem}
-use Rattle.operations.proofs.Widths.{i8-is, i16-is, i32-is, i64-is}
 use borrow.Author.Rules.{rules}
 use borrow.Enum.Refused.{opened}
+use Rattle.value.specs.Ir.{value_of}
+use Rattle.value.specs.Value.{tag, u8, u16, u32, u64, i8, i16, i32, i64}
+use Rattle.value.specs.Value as Believed
+use Rattle.operations.proofs.Arithmetic.{unlike, not-integral, signs, counts, signed-remains, remains, remainder-is}
+use Rattle.operations.proofs.Widths.{u8_is, u16-is, u32-is, u64-is, i8-is, i16-is, i32-is, i64-is}
 use Rattle.operations.proofs.integer.rem.Goals as goal
+use Rattle.operations.proofs.integer.rem.Goals.{in-U8-U8, in-U16-U16, in-U32-U32, in-U64-U64, in-I8-I8, in-I16-I16, in-I32-I32, in-I64-I64}
 
-pub returns-in_default-y : goal.returns-in_default-y
+pub returns-in_default : goal.returns-in_default
 unfolding value_of tag
-returns-in_default-y c =
-    let A = c.args in
-    unlike Believed.mod' (value_of A.x) (value_of A.y) i8 (ap (λ v. (value_of v).kind) c.in-I8.is) (left_over_lem (same i8) (rest (5 ∷ [])) A.y tt (opened c.in_default-y.in_default-y-own.keys2))
+returns-in_default c = unlike Believed.mod' c.args.x c.args.y u8 1 (ap (λ v. (value_of v).kind) c.in_default.is-0) tt (opened c.in_default.in_default-own.keys2)
 
-pub returns-in_default-y-2 : goal.returns-in_default-y-2
+pub returns-in_default-2 : goal.returns-in_default-2
 unfolding value_of tag
-returns-in_default-y-2 c =
-    let A = c.args in
-    unlike Believed.mod' (value_of A.x) (value_of A.y) i16 (ap (λ v. (value_of v).kind) c.in-I16.is) (left_over_lem (same i16) (rest (6 ∷ [])) A.y tt (opened c.in_default-y-2.in_default-y-2-own.keys2))
+returns-in_default-2 c = unlike Believed.mod' c.args.x c.args.y u16 2 (ap (λ v. (value_of v).kind) c.in_default.is-0) tt (opened c.in_default.in_default-own.keys2)
 
-pub returns-in_default-y-3 : goal.returns-in_default-y-3
+pub returns-in_default-3 : goal.returns-in_default-3
 unfolding value_of tag
-returns-in_default-y-3 c =
-    let A = c.args in
-    unlike Believed.mod' (value_of A.x) (value_of A.y) i32 (ap (λ v. (value_of v).kind) c.in-I32.is) (left_over_lem (same i32) (rest (7 ∷ [])) A.y tt (opened c.in_default-y-3.in_default-y-3-own.keys2))
+returns-in_default-3 c = unlike Believed.mod' c.args.x c.args.y u32 3 (ap (λ v. (value_of v).kind) c.in_default.is-0) tt (opened c.in_default.in_default-own.keys2)
 
-pub returns-in_default-y-4 : goal.returns-in_default-y-4
+pub returns-in_default-4 : goal.returns-in_default-4
 unfolding value_of tag
-returns-in_default-y-4 c =
-    let A = c.args in
-    unlike Believed.mod' (value_of A.x) (value_of A.y) i64 (ap (λ v. (value_of v).kind) c.in-I64.is) (left_over_lem (same i64) (rest (8 ∷ [])) A.y tt (opened c.in_default-y-4.in_default-y-4-own.keys2))
+returns-in_default-4 c = unlike Believed.mod' c.args.x c.args.y u64 4 (ap (λ v. (value_of v).kind) c.in_default.is-0) tt (opened c.in_default.in_default-own.keys2)
 
-pub rem_unsigned-requires : goal.rem_unsigned-requires
-rem_unsigned-requires c = no_sign c.args.x (opened c.in_default.in_default-own.keys5)
+pub returns-in_default-5 : goal.returns-in_default-5
+unfolding value_of tag
+returns-in_default-5 c = unlike Believed.mod' c.args.x c.args.y i8 5 (ap (λ v. (value_of v).kind) c.in_default.is-0) tt (opened c.in_default.in_default-own.keys2)
 
-pub returns-in-I8-y : goal.returns-in-I8-y
-returns-in-I8-y c =
-    let A = c.args in
-    machine i8-is Believed.mod' A.x A.y {a = c.in-I8.a} {b = c.in-I8-y.b} (search rules) (search rules) c.in-I8.is c.in-I8-y.is c.rem_i8.ensures
+pub returns-in_default-6 : goal.returns-in_default-6
+unfolding value_of tag
+returns-in_default-6 c = unlike Believed.mod' c.args.x c.args.y i16 6 (ap (λ v. (value_of v).kind) c.in_default.is-0) tt (opened c.in_default.in_default-own.keys2)
 
-pub returns-in-I16-y : goal.returns-in-I16-y
-returns-in-I16-y c =
-    let A = c.args in
-    machine i16-is Believed.mod' A.x A.y {a = c.in-I16.a} {b = c.in-I16-y.b} (search rules) (search rules) c.in-I16.is c.in-I16-y.is c.rem_i16.ensures
+pub returns-in_default-7 : goal.returns-in_default-7
+unfolding value_of tag
+returns-in_default-7 c = unlike Believed.mod' c.args.x c.args.y i32 7 (ap (λ v. (value_of v).kind) c.in_default.is-0) tt (opened c.in_default.in_default-own.keys2)
 
-pub returns-in-I32-y : goal.returns-in-I32-y
-returns-in-I32-y c =
-    let A = c.args in
-    machine i32-is Believed.mod' A.x A.y {a = c.in-I32.a} {b = c.in-I32-y.b} (search rules) (search rules) c.in-I32.is c.in-I32-y.is c.rem_i32.ensures
+pub returns-in_default-8 : goal.returns-in_default-8
+unfolding value_of tag
+returns-in_default-8 c = unlike Believed.mod' c.args.x c.args.y i64 8 (ap (λ v. (value_of v).kind) c.in_default.is-0) tt (opened c.in_default.in_default-own.keys2)
 
-pub returns-in-I64-y : goal.returns-in-I64-y
-returns-in-I64-y c =
-    let A = c.args in
-    machine i64-is Believed.mod' A.x A.y {a = c.in-I64.a} {b = c.in-I64-y.b} (search rules) (search rules) c.in-I64.is c.in-I64-y.is c.rem_i64.ensures
+pub returns-in_default-9 : goal.returns-in_default-9
+returns-in_default-9 c = not-integral Believed.mod' c.args.x c.args.y c.in_default.in_default-own.keys9
+
+pub returns : goal.returns
+returns c =
+    elim c.match-x.branch [
+      | in-U8-U8 w ↦ remainder-is (counts u8_is) {a = w.in-U8-U8.a} {b = w.in-U8-U8.b} w.in-U8-U8.is-0 w.in-U8-U8.is-1 (search rules) (search rules) w.checked_rem.result c.ok_or_else.result w.map-remainder.ensures.cases w.remainder-is (λ n k. search rules) c.ok_or_else.ensures.cases (remains u8_is _ _ (search rules) _ w.checked_rem.ensures)
+      | in-U16-U16 w ↦ remainder-is (counts u16-is) {a = w.in-U16-U16.a} {b = w.in-U16-U16.b} w.in-U16-U16.is-0 w.in-U16-U16.is-1 (search rules) (search rules) w.checked_rem-in-U16-U16.result c.ok_or_else.result w.map-remainder-in-U16-U16.ensures.cases w.remainder-is (λ n k. search rules) c.ok_or_else.ensures.cases (remains u16-is _ _ (search rules) _ w.checked_rem-in-U16-U16.ensures)
+      | in-U32-U32 w ↦ remainder-is (counts u32-is) {a = w.in-U32-U32.a} {b = w.in-U32-U32.b} w.in-U32-U32.is-0 w.in-U32-U32.is-1 (search rules) (search rules) w.checked_rem-in-U32-U32.result c.ok_or_else.result w.map-remainder-in-U32-U32.ensures.cases w.remainder-is (λ n k. search rules) c.ok_or_else.ensures.cases (remains u32-is _ _ (search rules) _ w.checked_rem-in-U32-U32.ensures)
+      | in-U64-U64 w ↦ remainder-is (counts u64-is) {a = w.in-U64-U64.a} {b = w.in-U64-U64.b} w.in-U64-U64.is-0 w.in-U64-U64.is-1 (search rules) (search rules) w.checked_rem-in-U64-U64.result c.ok_or_else.result w.map-remainder-in-U64-U64.ensures.cases w.remainder-is (λ n k. search rules) c.ok_or_else.ensures.cases (remains u64-is _ _ (search rules) _ w.checked_rem-in-U64-U64.ensures)
+      | in-I8-I8 w ↦ remainder-is (signs i8-is) {a = w.in-I8-I8.a} {b = w.in-I8-I8.b} w.in-I8-I8.is-0 w.in-I8-I8.is-1 (search rules) (search rules) w.checked_rem-in-I8-I8.result c.ok_or_else.result w.map-remainder-in-I8-I8.ensures.cases w.remainder-is (λ n k. search rules) c.ok_or_else.ensures.cases (signed-remains i8-is w.in-I8-I8.a w.in-I8-I8.b (search rules) (search rules) _ w.checked_rem-in-I8-I8.ensures)
+      | in-I16-I16 w ↦ remainder-is (signs i16-is) {a = w.in-I16-I16.a} {b = w.in-I16-I16.b} w.in-I16-I16.is-0 w.in-I16-I16.is-1 (search rules) (search rules) w.checked_rem-in-I16-I16.result c.ok_or_else.result w.map-remainder-in-I16-I16.ensures.cases w.remainder-is (λ n k. search rules) c.ok_or_else.ensures.cases (signed-remains i16-is w.in-I16-I16.a w.in-I16-I16.b (search rules) (search rules) _ w.checked_rem-in-I16-I16.ensures)
+      | in-I32-I32 w ↦ remainder-is (signs i32-is) {a = w.in-I32-I32.a} {b = w.in-I32-I32.b} w.in-I32-I32.is-0 w.in-I32-I32.is-1 (search rules) (search rules) w.checked_rem-in-I32-I32.result c.ok_or_else.result w.map-remainder-in-I32-I32.ensures.cases w.remainder-is (λ n k. search rules) c.ok_or_else.ensures.cases (signed-remains i32-is w.in-I32-I32.a w.in-I32-I32.b (search rules) (search rules) _ w.checked_rem-in-I32-I32.ensures)
+      | in-I64-I64 w ↦ remainder-is (signs i64-is) {a = w.in-I64-I64.a} {b = w.in-I64-I64.b} w.in-I64-I64.is-0 w.in-I64-I64.is-1 (search rules) (search rules) w.checked_rem-in-I64-I64.result c.ok_or_else.result w.map-remainder-in-I64-I64.ensures.cases w.remainder-is (λ n k. search rules) c.ok_or_else.ensures.cases (signed-remains i64-is w.in-I64-I64.a w.in-I64-I64.b (search rules) (search rules) _ w.checked_rem-in-I64-I64.ensures)
+    ]
