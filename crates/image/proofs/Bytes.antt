@@ -1,4 +1,5 @@
 -- The steps of `bytes_from`, the bound that lets the code divide, and bytes that are stored or have no room.
+use Rattle.std.specs.Prelude.{Some, None}
 use Prim.Native.Nat.{ℕ, zero, suc, ◌+◌, ◌-◌, ◌*◌, ◌/◌, ◌%◌, ◌^◌, ◌<◌, ◌≤◌}
 use native.Mathlib.Nat.{pow-suc, mul_assoc, div-lt_iff_lt-mul}
 use native.Mathlib.Numerals.{sub-one, add-one}
@@ -10,7 +11,6 @@ use lib.Seq.{sets}
 use borrow.Author.Tests.{lt-ltb, le-ltb, le-leb, lt-leb}
 use Rattle.image.specs.Number.{bytes_from}
 use Rattle.image.specs.Answer.{Stored}
-use Rattle.image.specs.declared.number.Written.TheVariants.{To, Full}
 
 pub last_byte : (spare v : ℕ) → v < 128 → bytes_from spare v ≡ v ∷ []
 unfolding bytes_from
@@ -43,12 +43,12 @@ write-last out at spare left h e = ap (sets out at) (sym (last_byte spare left h
 
 -- bytes that are stored, or have no room
 module _ (x : List ℕ) (start : ℕ) (before : List ℕ) where
-  pub stored : (to : ℕ) (after : List ℕ) → start + length x ≤ length before → to ≡ start + length x → after ≡ sets before start x → Stored x start before (To to) after
+  pub stored : (to : ℕ) (after : List ℕ) → start + length x ≤ length before → to ≡ start + length x → after ≡ sets before start x → Stored x start before (Some to) after
   stored to after room e f =
       let b = le-leb (start + length x) (length before) room in
-      record { answer = rw b (ap To e); buffer = rw b f }
+      record { answer = rw b (ap Some e); buffer = rw b f }
 
-  pub no_room : length before < start + length x → Stored x start before Full before
+  pub no_room : length before < start + length x → Stored x start before None before
   no_room over =
       let b = lt-leb (start + length x) (length before) over in
       record { answer = rw b; buffer = rw b }

@@ -1,28 +1,28 @@
 -- Fields one after another, as the code reads them: each from the step before it.
-use Prim.Native.Nat.{ℕ, zero, suc, ◌+◌}
-use native.Mathlib.Numerals.{add-one}
-use mathlib.Core.Bool.{Bool, true, false}
+use Rattle.std.specs.Prelude.{Result, Ok, Err}
+use Prim.Native.Nat.{ℕ, zero, suc}
+use mathlib.Core.Bool.{Bool}
 use mathlib.Core.Path.{◌≡◌, refl, sym, ap, ◌∙◌}
 use mathlib.Core.List.{List, ◌∷◌}
+use Rattle.value.specs.declared.refusal.Refusal.{Refusal}
 use Rattle.value.specs.Answer.{pick}
 use Rattle.image.specs.Parse.{Got, took, refused, Field, and_then, ◌>>=◌, ◌<$>◌, ◌<*>◌, two, three, four, five, many, placed}
 use Rattle.image.specs.Number.{number}
-use Rattle.image.specs.Fields.{such, tested}
-use Rattle.image.specs.Answer.{shape, after, or_else, walk, place_of}
-use Rattle.image.specs.declared.field.Step.{Step}
-use Rattle.image.specs.declared.field.Step.TheVariants.{At, Stop}
+use Rattle.image.specs.Fields.{such}
+use Rattle.image.specs.Answer.{stop, shape, walk}
+use Rattle.image.specs.declared.number.Stop.{Stop}
 
 -- ---- one field and what follows it
 
--- what follows starts where the field ended
-pub next : {A B : Type 0} (c : Step) (p : Field A) (d : A) (f : A → Field B) → after c (p >>= f) ≡ after (walk p c) (f (or_else d (after c p)))
-unfolding and_then
-next {A} {B} (At n) p d f = by_got (p n)
-  where
-    by_got : (g : Got A) → and_then g f ≡ after (shape g) (f (or_else d g))
-    by_got (took a n) = refl
-    by_got (refused n q) = refl
-next (Stop n q) p d f = refl
+-- what follows a field that was taken, and one that was refused
+module _ {A B : Type 0} (p : Field A) (f : A → Field B) (at : ℕ) where
+  pub then-taken : {a : A} {n : ℕ} → p at ≡ took a n → (p >>= f) at ≡ f a n
+  unfolding and_then
+  then-taken h = rw h refl
+
+  pub then-refused : {k : Refusal} {q : ℕ} → p at ≡ refused k q → (p >>= f) at ≡ refused k q
+  unfolding and_then
+  then-refused h = rw h refl
 
 module _ {A B : Type 0} where
   shape-map : (f : A → B) (g : Got A) → shape (and_then g (λ a n. took (f a) n)) ≡ shape g
@@ -31,84 +31,78 @@ module _ {A B : Type 0} where
   shape-map f (refused n q) = refl
 
   -- a field whose value is only dressed up ends where it ends
-  pub walk-map : (f : A → B) (p : Field A) (c : Step) → walk (f <$> p) c ≡ walk p c
-  walk-map f p (At n) = shape-map f (p n)
-  walk-map f p (Stop n q) = refl
+  pub walk-map : (f : A → B) (p : Field A) (c : Result ℕ Stop) → walk (f <$> p) c ≡ walk p c
+  walk-map f p (Ok n) = shape-map f (p n)
+  walk-map f p (Err e) = refl
 
-  pub walk_ap : (p : Field (A → B)) (q : Field A) (c : Step) → walk (p <*> q) c ≡ walk q (walk p c)
+  pub walk_ap : (p : Field (A → B)) (q : Field A) (c : Result ℕ Stop) → walk (p <*> q) c ≡ walk q (walk p c)
   unfolding and_then
-  walk_ap p q (Stop n r) = refl
-  walk_ap p q (At at) = by_got (p at)
+  walk_ap p q (Err e) = refl
+  walk_ap p q (Ok at) = by_got (p at)
     where
       by_got : (g : Got (A → B)) → shape (and_then g (λ f n. and_then (q n) (λ a m. took (f a) m))) ≡ walk q (shape g)
       by_got (took f n) = shape-map f (q n)
       by_got (refused k r) = refl
 
-pub walk-placed : {A : Type 0} (p : Field A) (c : Step) → walk (placed p) c ≡ walk p c
-walk-placed p (At n) = shape-map _ (p n)
-walk-placed p (Stop n q) = refl
+-- what follows a field, where it ends in the same place whatever the field's value is
+pub walk-then : {A B : Type 0} (p : Field A) (f : A → Field B) (ends : Result ℕ Stop → Result ℕ Stop) → ((e : Stop) → Err e ≡ ends (Err e))
+    → ((a : A) (n : ℕ) → shape (f a n) ≡ ends (Ok n)) → (c : Result ℕ Stop) → walk (p >>= f) c ≡ ends (walk p c)
+unfolding and_then
+walk-then p f ends stops h (Err e) = stops e
+walk-then {A} p f ends stops h (Ok at) = by_got (p at)
+  where
+    by_got : (g : Got A) → shape (and_then g f) ≡ ends (shape g)
+    by_got (took a n) = h a n
+    by_got (refused k q) = stops (stop k q)
 
-pub walk-two : {A B Z : Type 0} (f : A → B → Z) (p : Field A) (q : Field B) (c : Step) → walk (two f p q) c ≡ walk q (walk p c)
+pub walk-placed : {A : Type 0} (p : Field A) (c : Result ℕ Stop) → walk (placed p) c ≡ walk p c
+walk-placed p (Ok n) = shape-map _ (p n)
+walk-placed p (Err e) = refl
+
+pub walk-two : {A B Z : Type 0} (f : A → B → Z) (p : Field A) (q : Field B) (c : Result ℕ Stop) → walk (two f p q) c ≡ walk q (walk p c)
 walk-two f p q c = walk_ap (f <$> p) q c ∙ ap (walk q) (walk-map f p c)
 
-pub walk-three : {A B C Z : Type 0} (f : A → B → C → Z) (p : Field A) (q : Field B) (r : Field C) (c : Step)
+pub walk-three : {A B C Z : Type 0} (f : A → B → C → Z) (p : Field A) (q : Field B) (r : Field C) (c : Result ℕ Stop)
     → walk (three f p q r) c ≡ walk r (walk q (walk p c))
 walk-three f p q r c = walk_ap (two f p q) r c ∙ ap (walk r) (walk-two f p q c)
 
-pub walk-four : {A B C D Z : Type 0} (f : A → B → C → D → Z) (p : Field A) (q : Field B) (r : Field C) (t : Field D) (c : Step)
+pub walk-four : {A B C D Z : Type 0} (f : A → B → C → D → Z) (p : Field A) (q : Field B) (r : Field C) (t : Field D) (c : Result ℕ Stop)
     → walk (four f p q r t) c ≡ walk t (walk r (walk q (walk p c)))
 walk-four f p q r t c = walk_ap (three f p q r) t c ∙ ap (walk t) (walk-three f p q r c)
 
-pub walk-five : {A B C D E Z : Type 0} (f : A → B → C → D → E → Z) (p : Field A) (q : Field B) (r : Field C) (t : Field D) (u : Field E) (c : Step)
+pub walk-five : {A B C D E Z : Type 0} (f : A → B → C → D → E → Z) (p : Field A) (q : Field B) (r : Field C) (t : Field D) (u : Field E) (c : Result ℕ Stop)
     → walk (five f p q r t u) c ≡ walk u (walk t (walk r (walk q (walk p c))))
 walk-five f p q r t u c = walk_ap (four f p q r t) u c ∙ ap (walk u) (walk-four f p q r t c)
 
 -- ---- many fields
 
 module _ {A : Type 0} (p : Field A) where
-  pub many-none : (c : Step) → walk (many 0 p) c ≡ c
+  pub many-none : (c : Result ℕ Stop) → walk (many 0 p) c ≡ c
   unfolding many
-  many-none (At n) = refl
-  many-none (Stop n q) = refl
+  many-none (Ok n) = refl
+  many-none (Err e) = refl
 
-  pub many-first : (n : ℕ) (c : Step) → walk (many (suc n) p) c ≡ walk (many n p) (walk p c)
+  pub many-first : (n : ℕ) (c : Result ℕ Stop) → walk (many (suc n) p) c ≡ walk (many n p) (walk p c)
   unfolding many and_then
-  many-first n (Stop k q) = refl
-  many-first n (At at) = by_got (p at)
+  many-first n (Err e) = refl
+  many-first n (Ok at) = by_got (p at)
     where
       by_got : (g : Got A) → shape (and_then g (λ x m. and_then (many n p m) (λ xs e. took (x ∷ xs) e))) ≡ walk (many n p) (shape g)
       by_got (took x m) = shape-map (λ xs. x ∷ xs) (many n p m)
       by_got (refused k q) = refl
 
   -- one more field, at the end
-  many-last : (n : ℕ) (c : Step) → walk (many (suc n) p) c ≡ walk p (walk (many n p) c)
+  pub many-last : (n : ℕ) (c : Result ℕ Stop) → walk (many (suc n) p) c ≡ walk p (walk (many n p) c)
   many-last zero c = many-first zero c ∙ many-none (walk p c) ∙ ap (walk p) (sym (many-none c))
   many-last (suc n) c = many-first (suc n) c ∙ many-last n (walk p c) ∙ ap (walk p) (sym (many-first n c))
 
-  -- a turn of a loop: `c` is the step after n fields, and `c'` after one more
-  pub many_more : (n : ℕ) (c₀ c c' : Step) → c ≡ walk (many n p) c₀ → c' ≡ walk p c → c' ≡ walk (many (n + 1) p) c₀
-  many_more n c₀ c c' e f = rw add-one (f ∙ ap (walk p) e ∙ sym (many-last n c₀))
+-- ---- numbers that pass a test, as the code has read them
 
--- ---- numbers that pass a test
-
-module _ (s : List ℕ) (test : ℕ → Bool) (why : ℕ) (c : Step) where
-  such-after : after c (such s test why) ≡ tested test why (place_of c) (after c (number s))
+module _ (s : List ℕ) (test : ℕ → Bool) (why : Refusal) (at : ℕ) where
+  pub such-taken : {v n : ℕ} → number s at ≡ took v n → such s test why at ≡ pick (test v) (took v n) (refused why at)
   unfolding such and_then
-  such-after = by_step c
-    where
-      by_step : (c : Step) → after c (such s test why) ≡ tested test why (place_of c) (after c (number s))
-      by_step (At n) = refl
-      by_step (Stop n q) = refl
+  such-taken h = rw h refl
 
-  module _ {g : Got ℕ} (e : g ≡ after c (number s)) where
-    pub such-passed : {v n : ℕ} → g ≡ took v n → test v ≡ true → took v n ≡ after c (such s test why)
-    unfolding and_then
-    such-passed {v} {n} h t = sym (such-after ∙ ap (tested test why (place_of c)) (sym e ∙ h) ∙ ap (λ (b : Bool). pick b (took v n) (refused why (place_of c))) t)
-
-    pub such_failed : {v n : ℕ} → g ≡ took v n → test v ≡ false → refused why (place_of c) ≡ after c (such s test why)
-    unfolding and_then
-    such_failed {v} {n} h t = sym (such-after ∙ ap (tested test why (place_of c)) (sym e ∙ h) ∙ ap (λ (b : Bool). pick b (took v n) (refused why (place_of c))) t)
-
-    pub such-bad : {n q : ℕ} → g ≡ refused n q → refused n q ≡ after c (such s test why)
-    unfolding and_then
-    such-bad h = sym (such-after ∙ ap (tested test why (place_of c)) (sym e ∙ h))
+  pub such-refused : {k : Refusal} {q : ℕ} → number s at ≡ refused k q → such s test why at ≡ refused k q
+  unfolding such and_then
+  such-refused h = rw h refl

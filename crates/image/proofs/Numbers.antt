@@ -2,13 +2,14 @@
 use Prim.Native.Nat.{ℕ, zero, suc, ◌+◌, ◌-◌, ◌*◌, ◌≤◌}
 use native.Mathlib.Omega.{arith}
 use mathlib.Core.Bool.{Bool, true, false}
-use mathlib.Core.Path.{◌≡◌, refl, subst}
+use mathlib.Core.Path.{◌≡◌, refl, ap, subst}
 use mathlib.Core.List.{List, [], ◌∷◌}
 use mathlib.Core.Option.{Option, none, some, map}
 use lib.ListN.{length, get_or}
 use lib.Dec.{ltb, leb, eqb}
+use Rattle.value.specs.declared.refusal.Refusal.{Refusal}
 use Rattle.value.specs.Answer.{pick}
-use Rattle.value.specs.Refusal.{bytes_run_out, malformed, unknown, over_limit, beyond_count, left_over}
+use Rattle.value.specs.Refusal.{bytes_run_out, malformed, unknown, over_limit, beyond_count, left_over, number_of}
 use Rattle.value.specs.Value.{Kind}
 use Rattle.value.specs.Tags.{kind_at}
 use Rattle.image.specs.Parse.{Got, took, refused, Field, and_then, give, many, within, placed, ◌>>=◌, ◌<*>◌, one, two, three, four, five}
@@ -19,14 +20,14 @@ use Rattle.image.specs.Program.{Program, Operand, Jump, Switch, Assign, Constant
 use Rattle.image.proofs.Parts.{parts, meant-some}
 
 -- one of loading's numbers
-record Known (k : ℕ) : Type 0 where
-  least : 1 ≤ k
-  most : k ≤ 6
+record Known (k : Refusal) : Type 0 where
+  least : 1 ≤ number_of k
+  most : number_of k ≤ 6
 
 -- something taken, or a refusal with such a number
 data Gives {A : Type 0} : Got A → Type 0 where
   taken : {a : A} {end : ℕ} → Gives (took a end)
-  refusing : {k place : ℕ} → Known k → Gives (refused k place)
+  refusing : {k : Refusal} {place : ℕ} → Known k → Gives (refused k place)
 
 -- at every place
 record Giving {A : Type 0} (p : Field A) : Type 0 where
@@ -118,7 +119,7 @@ module _ (s : List ℕ) where
   number-gives = record { gives = λ at. (groups-gives 9 at 1 0).gives at }
 
   -- a number that passes a test, or is refused with one of them
-  such-gives : (test : ℕ → Bool) (why : ℕ) → Known why → Giving (such s test why)
+  such-gives : (test : ℕ → Bool) (why : Refusal) → Known why → Giving (such s test why)
   unfolding such
   such-gives test why h = record { gives = λ at. then_from (number-gives.gives at) (λ v end e. by_pick (test v) taken (refusing h)) }
 
@@ -285,9 +286,9 @@ module _ (s : List ℕ) where
   loaded-gives = then_from (by_pick (leb (length s) 32768) (whole-gives.gives 0) (refusing {k = over_limit} (omega arith))) (λ i end e. taken)
 
 -- "at each: 1 bytes run out, .. Last, 6 bytes left over."
-pub loading_refuses : (s : List ℕ) (k place : ℕ) → loaded s ≡ refused k place → (1 ≤ k) × (k ≤ 6)
-loading_refuses s k place e = number_of (loaded s) (loaded-gives s) e
+pub loading_refuses : (s : List ℕ) (k : Refusal) (place : ℕ) → loaded s ≡ refused k place → (1 ≤ number_of k) × (number_of k ≤ 6)
+loading_refuses s k place e = by_got (loaded s) (loaded-gives s) e
   where
-    number_of : (g : Got Program) → Gives g → g ≡ refused k place → (1 ≤ k) × (k ≤ 6)
-    number_of g (taken {a} {end}) d = absurd (let z : ◌≡◌ {A = ℕ} 0 1 = cc in omega arith)
-    number_of g (refusing {k = j} h) d = let same : j ≡ k = cc in omega (arith, same, h.least, h.most)
+    by_got : (g : Got Program) → Gives g → g ≡ refused k place → (1 ≤ number_of k) × (number_of k ≤ 6)
+    by_got g (taken {a} {end}) d = absurd (let z : ◌≡◌ {A = ℕ} 0 1 = cc in omega arith)
+    by_got g (refusing {k = j} h) d = let same : j ≡ k = cc in omega (arith, ap number_of same, h.least, h.most)

@@ -6,6 +6,7 @@ use mathlib.Core.Path.{◌≡◌, refl, ap, subst}
 use mathlib.Core.List.{List, [], ◌∷◌}
 use mathlib.Core.Option.{Option, none, some}
 use lib.ListN.{get_or}
+use Rattle.value.specs.declared.refusal.Refusal.{Refusal}
 use Rattle.value.specs.Answer.{pick}
 use Rattle.image.specs.Parse.{Got, took, refused, Field, and_then, ◌>>=◌, one, two, three, four, five}
 use Rattle.image.specs.Fields.{meant}
@@ -17,7 +18,7 @@ pub record Parts {A B : Type 0} (g : Got A) (k : A → ℕ → Got B) (b : B) (m
   pub first : g ≡ took value place
   pub then' : k value place ≡ took b m
 
-pub never : {A : Type 0} {B : Type 0} {n q m : ℕ} {b : B} → ◌≡◌ {A = Got B} (refused n q) (took b m) → A
+pub never : {A : Type 0} {B : Type 0} {n : Refusal} {q m : ℕ} {b : B} → ◌≡◌ {A = Got B} (refused n q) (took b m) → A
 never {A} {B} {n} {q} {m} {b} e = let z : ◌≡◌ {A = ℕ} 0 1 = cc in absurd (omega arith)
 
 pub parts : {A B : Type 0} (g : Got A) (k : A → ℕ → Got B) (b : B) (m : ℕ) → and_then g k ≡ took b m → Parts g k b m
@@ -26,7 +27,7 @@ parts (took a n) k b m e = record { value = a; place = n; first = refl; then' = 
 parts (refused n q) k b m e = never e
 
 -- a test that let something through held
-pub picked : {B : Type 0} (t : Bool) (g : Got B) (n q : ℕ) (b : B) (m : ℕ) → pick t g (refused n q) ≡ took b m → (t ≡ true) × (g ≡ took b m)
+pub picked : {B : Type 0} (t : Bool) (g : Got B) (n : Refusal) (q : ℕ) (b : B) (m : ℕ) → pick t g (refused n q) ≡ took b m → (t ≡ true) × (g ≡ took b m)
 picked true g n q b m e = (refl, e)
 picked false g n q b m e = never e
 

@@ -1,4 +1,5 @@
 -- There and back: a number's bytes read as the number, and a number that was read has those bytes.
+use Rattle.value.specs.declared.refusal.Refusal.{Refusal}
 use Prim.Native.Nat.{ℕ, zero, suc, ◌+◌, ◌-◌, ◌*◌, ◌/◌, ◌%◌, ◌^◌, ◌<◌, ◌≤◌}
 use native.Mathlib.Nat.{mul_assoc, mul_comm, add-mul, div-add-mod', pow-suc, one-le-pow}
 use native.Mathlib.Numerals.{add-one, sub-one}
@@ -78,7 +79,7 @@ pub record Spelt (f w sum : ℕ) (s : List ℕ) (at u n : ℕ) : Type 0 where
   pub shortest : v ≡ 0 → 9 ≤ f
   pub bytes : drop at s ≡ bytes_from f v ++ drop n s
 
-never : {A B : Type 0} {n q e : ℕ} {a : A} {g : Got A} → g ≡ refused n q → g ≡ took a e → B
+never : {A B : Type 0} {n : Refusal} {q e : ℕ} {a : A} {g : Got A} → g ≡ refused n q → g ≡ took a e → B
 never {A} {B} {n} {q} {e} {a} {g} r t = let z : ◌≡◌ {A = ℕ} 0 1 = cc in absurd (omega arith)
 
 -- one byte that is the last

@@ -1,30 +1,34 @@
 -- Where the image's kinds of field end, as the code goes from step to step.
-use Prim.Native.Nat.{ℕ, zero, suc, ◌-◌, ◌≤◌, ◌<◌}
+use Rattle.std.specs.Prelude.{Result, Ok, Err}
+use Prim.Native.Nat.{ℕ, zero, suc, ◌+◌, ◌-◌, ◌≤◌, ◌<◌}
+use native.Mathlib.Nat.{zero-add}
 use native.Mathlib.Omega.{arith}
+use native.Mathlib.Numerals.{add-one}
 use native.Mathlib.Decide.{dec_lt}
 use mathlib.Core.Bool.{Bool, true, false}
-use mathlib.Core.Path.{◌≡◌, refl, sym, ap, ap₂, ◌∙◌}
+use mathlib.Core.Path.{◌≡◌, refl, sym, ap, ◌∙◌}
 use mathlib.Core.List.{List, [], ◌∷◌, map}
 use mathlib.Core.Option.{Option, none, some}
-use lib.ListN.{length, get_or}
+use lib.ListN.{length, get_or, take, drop}
 use lib.Dec.{ltb, leb, eqb, leb-suc-suc}
-use borrow.Author.Tests.{eq-eqb, ne_eqb, leb-true, lt-ltb, le-ltb}
+use borrow.Author.Tests.{ne_eqb, leb-true, lt-ltb, le-ltb}
+use Rattle.value.specs.declared.refusal.Refusal.{Refusal}
 use Rattle.value.specs.Answer.{pick}
-use Rattle.value.specs.Refusal.{unknown}
+use Rattle.value.specs.Refusal.{bytes_run_out, unknown}
 use Rattle.value.specs.Tags.{type_at}
-use Rattle.image.specs.Parse.{Got, took, refused, Field, and_then, ◌>>=◌, ◌<$>◌, give, many, within}
+use Rattle.image.specs.Parse.{Got, took, refused, Field, and_then, ◌>>=◌, many, within}
 use Rattle.image.specs.Number.{number}
 use Rattle.image.specs.Fields.{such, below, up_to, at_most, meant, listed, known, optional, list_of, bytes, raw}
-use Rattle.image.specs.Answer.{shape, after, or_else, walk, place_of, is_some, is_type}
-use Rattle.image.specs.declared.field.Step.{Step}
-use Rattle.image.specs.declared.field.Step.TheVariants.{At, Stop}
-use Rattle.image.proofs.Laws.{next, walk-map}
+use Rattle.image.specs.Answer.{stop, shape, after, walk, ending, is_some, is_type}
+use Rattle.image.specs.declared.number.Stop.{Stop}
+use Rattle.image.proofs.Laws.{walk-map, many-none, many-first, many-last}
+use Rattle.image.proofs.Parts.{never}
 
 -- two tests that agree
-pub such-same : (s : List ℕ) (test test' : ℕ → Bool) (why : ℕ) → ((v : ℕ) → test v ≡ test' v) → (c : Step) → walk (such s test why) c ≡ walk (such s test' why) c
+pub such-same : (s : List ℕ) (test test' : ℕ → Bool) (why : Refusal) → ((v : ℕ) → test v ≡ test' v) → (c : Result ℕ Stop) → walk (such s test why) c ≡ walk (such s test' why) c
 unfolding such and_then
-such-same s test test' why h (Stop n q) = refl
-such-same s test test' why h (At at) = by_got (number s at)
+such-same s test test' why h (Err e) = refl
+such-same s test test' why h (Ok at) = by_got (number s at)
   where
     by_got : (g : Got ℕ) → shape (and_then g (λ v n. pick (test v) (took v n) (refused why at))) ≡ shape (and_then g (λ v n. pick (test' v) (took v n) (refused why at)))
     by_got (took v n) = ap (λ (b : Bool). shape (pick b (took v n) (refused why at))) (h v)
@@ -34,10 +38,10 @@ such-same s test test' why h (At at) = by_got (number s at)
 
 -- what stands for something is what passes the test
 pub known-such : {A : Type 0} (s : List ℕ) (item : ℕ → Option A) (test : ℕ → Bool) → ((v : ℕ) → is_some (item v) ≡ test v)
-    → (c : Step) → walk (known s item) c ≡ walk (such s test unknown) c
+    → (c : Result ℕ Stop) → walk (known s item) c ≡ walk (such s test unknown) c
 unfolding known such and_then
-known-such s item test h (Stop n q) = refl
-known-such {A} s item test h (At at) = whole
+known-such s item test h (Err e) = refl
+known-such {A} s item test h (Ok at) = whole
   where
     by_item : (o : Option A) (v n : ℕ) → shape (meant o at n) ≡ shape (pick (is_some o) (took v n) (refused unknown at))
     by_item none v n = refl
@@ -56,38 +60,32 @@ each-known (x ∷ xs) zero = sym (lt-ltb 0 (suc (length xs)) (omega arith))
 each-known (x ∷ xs) (suc v) = each-known xs v ∙ sym (leb-suc-suc (suc v) (length xs))
 
 -- items at every position from 0 on
-pub known-below : {A : Type 0} (s : List ℕ) (xs : List A) (c : Step) → walk (known s (listed (map some xs))) c ≡ walk (below s (length xs) unknown) c
+pub known-below : {A : Type 0} (s : List ℕ) (xs : List A) (c : Result ℕ Stop) → walk (known s (listed (map some xs))) c ≡ walk (below s (length xs) unknown) c
 known-below s xs c = known-such s (listed (map some xs)) (λ v. ltb v (length xs)) (each-known xs) c
 
--- the item that the number stands for, and the first where it was refused
-pub known-item : {A : Type 0} (s : List ℕ) (a : A) (xs : List A) (c : Step)
-    → or_else a (after c (known s (listed (map some (a ∷ xs))))) ≡ get_or (a ∷ xs) (or_else 0 (after c (below s (length (a ∷ xs)) unknown))) a
+-- the item that a number below the length of the list stands for
+pub known-item : {A : Type 0} (s : List ℕ) (a : A) (xs : List A) (at : ℕ) {v n : ℕ} → below s (length xs) unknown at ≡ took v n → known s (listed (map some xs)) at ≡ took (get_or xs v a) n
 unfolding known such and_then
-known-item s a xs (Stop n q) = refl
-known-item {A} s a xs (At at) = by_got (number s at)
+known-item {A} s a xs at = by_got (number s at)
   where
-    beyond : (ys : List A) (v : ℕ) → length ys ≤ v → ◌≡◌ {A = Option A} (get_or (map some ys) v none) none
-    beyond [] v h = refl
-    beyond (y ∷ ys) zero h = absurd (omega arith)
-    beyond (y ∷ ys) (suc v) h = beyond ys v (omega arith)
-
     there : (ys : List A) (v : ℕ) → v < length ys → get_or (map some ys) v none ≡ some (get_or ys v a)
     there [] v h = absurd (omega arith)
     there (y ∷ ys) zero h = refl
     there (y ∷ ys) (suc v) h = there ys v (omega arith)
 
-    by_test : (v n : ℕ) → Dec (v < length (a ∷ xs))
-        → or_else a (meant (get_or (map some (a ∷ xs)) v none) at n) ≡ get_or (a ∷ xs) (or_else 0 (pick (ltb v (length (a ∷ xs))) (took v n) (refused unknown at))) a
-    by_test v n (yes h) = rw (there (a ∷ xs) v h, lt-ltb v (length (a ∷ xs)) h)
-    by_test v n (no h) = rw (beyond (a ∷ xs) v (omega arith), le-ltb v (length (a ∷ xs)) (omega arith))
+    by_test : (u m : ℕ) {v n : ℕ} → Dec (u < length xs) → pick (ltb u (length xs)) (took u m) (refused unknown at) ≡ took v n → meant (get_or (map some xs) u none) at m ≡ took (get_or xs v a) n
+    by_test u m (yes h) e =
+        let is : took u m ≡ took _ _ = rw (lt-ltb u (length xs) h) at e in
+        rw (there xs u h) cc
+    by_test u m (no h) e = never (rw (le-ltb u (length xs) (omega arith)) at e)
 
-    by_got : (g : Got ℕ) → or_else a (and_then g (λ v n. meant (get_or (map some (a ∷ xs)) v none) at n))
-        ≡ get_or (a ∷ xs) (or_else 0 (and_then g (λ v n. pick (ltb v (length (a ∷ xs))) (took v n) (refused unknown at)))) a
-    by_got (took v n) = by_test v n (dec_lt v (length (a ∷ xs)))
-    by_got (refused k q) = refl
+    by_got : (g : Got ℕ) {v n : ℕ} → and_then g (λ u m. pick (ltb u (length xs)) (took u m) (refused unknown at)) ≡ took v n
+        → and_then g (λ u m. meant (get_or (map some xs) u none) at m) ≡ took (get_or xs v a) n
+    by_got (took u m) e = by_test u m (dec_lt u (length xs)) e
+    by_got (refused k q) e = never e
 
 -- an item at position 1 alone
-pub known_only : {A : Type 0} (s : List ℕ) (a : A) (c : Step) → walk (known s (listed (none ∷ some a ∷ []))) c ≡ walk (such s (λ v. eqb v 1) unknown) c
+pub known_only : {A : Type 0} (s : List ℕ) (a : A) (c : Result ℕ Stop) → walk (known s (listed (none ∷ some a ∷ []))) c ≡ walk (such s (λ v. eqb v 1) unknown) c
 known_only s a c = known-such s (listed (none ∷ some a ∷ [])) (λ v. eqb v 1) one_alone c
   where
     one_alone : (v : ℕ) → is_some (get_or (none ∷ some a ∷ []) v none) ≡ eqb v 1
@@ -95,104 +93,158 @@ known_only s a c = known-such s (listed (none ∷ some a ∷ [])) (λ v. eqb v 1
     one_alone (suc zero) = refl
     one_alone (suc (suc n)) = sym (ne_eqb (suc (suc n)) 1 (λ e. omega arith))
 
-pub known-type : (s : List ℕ) (c : Step) → walk (known s type_at) c ≡ walk (such s is_type unknown) c
+pub known-type : (s : List ℕ) (c : Result ℕ Stop) → walk (known s type_at) c ≡ walk (such s is_type unknown) c
 unfolding is_type
 known-type s c = known-such s type_at is_type (λ v. refl) c
 
 -- ---- forms that a number chooses
 
-module _ {A : Type 0} (s : List ℕ) (row_of : ℕ → Option (Field A)) (v : ℕ) where
-  choose : (g : Got ℕ) (at : ℕ) (row : Field A) → v ≡ or_else 0 g → row_of v ≡ some row
-      → shape (and_then (and_then g (λ v n. meant (row_of v) at n)) (λ p n. p n)) ≡ walk row (shape g)
-  unfolding and_then
-  choose (took u n) at row e h = rw (sym e, h)
-  choose (refused k q) at row e h = refl
-
-  choose-none : (g : Got ℕ) (at : ℕ) → v ≡ or_else 0 g → row_of v ≡ none → (v ≡ 0 → ⊥)
-      → shape (and_then (and_then g (λ v n. meant (row_of v) at n)) (λ p n. p n)) ≡ Stop unknown at
-  unfolding and_then
-  choose-none (took u n) at e h z = rw (sym e, h)
-  choose-none (refused k q) at e h z = absurd (z e)
-
+module _ {A : Type 0} (s : List ℕ) (row_of : ℕ → Option (Field A)) (at : ℕ) {v n : ℕ} (read : number s at ≡ took v n) where
   -- the number's row
-  pub chosen : (c : Step) (row : Field A) → v ≡ or_else 0 (after c (number s)) → row_of v ≡ some row
-      → walk (known s row_of >>= λ p. p) c ≡ walk row (walk (number s) c)
-  unfolding known
-  chosen (At at) row e h = choose (number s at) at row e h
-  chosen (Stop k q) row e h = refl
+  pub chosen : (row : Field A) → row_of v ≡ some row → shape ((known s row_of >>= λ p. p) at) ≡ shape (row n)
+  unfolding known and_then
+  chosen row h = rw (read, h) refl
 
   -- a number that has no row
-  pub chosen_none : (c : Step) → v ≡ or_else 0 (after c (number s)) → row_of v ≡ none → (v ≡ 0 → ⊥)
-      → walk (known s row_of >>= λ p. p) c ≡ Stop unknown (place_of c)
-  unfolding known
-  chosen_none (At at) e h z = choose-none (number s at) at e h z
-  chosen_none (Stop k q) e h z = absurd (z e)
+  pub chosen_none : row_of v ≡ none → shape ((known s row_of >>= λ p. p) at) ≡ Err (stop unknown at)
+  unfolding known and_then
+  chosen_none h = rw (read, h) refl
+
+-- no number
+pub chosen-refused : {A : Type 0} (s : List ℕ) (row_of : ℕ → Option (Field A)) (at : ℕ) {k : Refusal} {q : ℕ} → number s at ≡ refused k q
+    → shape ((known s row_of >>= λ p. p) at) ≡ Err (stop k q)
+unfolding known and_then
+chosen-refused s row_of at h = rw h refl
 
 -- ---- a mark or a count, and what it announces
 
-module _ {A : Type 0} (s : List ℕ) (p : Field A) (c : Step) where
-  -- the mark is 0
-  pub optional-none : {v : ℕ} → v ≡ or_else 0 (after c (up_to s 1 unknown)) → v ≡ 0 → walk (optional s p) c ≡ walk (up_to s 1 unknown) c
-  unfolding optional
-  optional-none {v} e z = ap shape (next c (up_to s 1 unknown) 0 _) ∙ by_step (walk (up_to s 1 unknown) c) (eq-eqb _ 0 (sym e ∙ z))
-    where
-      by_step : (d : Step) {b : Bool} → b ≡ true → walk (pick b (give none) (some <$> p)) d ≡ d
-      by_step (At n) h = rw h
-      by_step (Stop n q) h = refl
+module _ {A : Type 0} (s : List ℕ) (p : Field A) (at : ℕ) where
+  pub optional-none : {n : ℕ} → up_to s 1 unknown at ≡ took 0 n → shape (optional s p at) ≡ Ok n
+  unfolding optional and_then
+  optional-none h = rw h refl
 
-  -- the mark is not 0
-  pub optional-some : {v : ℕ} → v ≡ or_else 0 (after c (up_to s 1 unknown)) → (v ≡ 0 → ⊥) → walk (optional s p) c ≡ walk p (walk (up_to s 1 unknown) c)
-  unfolding optional
-  optional-some {v} e z = ap shape (next c (up_to s 1 unknown) 0 _) ∙ by_bool (ne_eqb _ 0 (λ k. z (e ∙ k))) ∙ walk-map some p (walk (up_to s 1 unknown) c)
-    where
-      by_bool : {b : Bool} → b ≡ false → walk (pick b (give none) (some <$> p)) (walk (up_to s 1 unknown) c) ≡ walk (some <$> p) (walk (up_to s 1 unknown) c)
-      by_bool h = rw h
+  pub optional-some : {v n : ℕ} → up_to s 1 unknown at ≡ took v n → (v ≡ 0 → ⊥) → shape (optional s p at) ≡ shape (p n)
+  unfolding optional and_then
+  optional-some {v} {n} h z = rw (h, ne_eqb v 0 z) (walk-map some p (Ok n))
 
-  pub list_of-walk : (limit : ℕ) → walk (list_of s limit p) c ≡ walk (many (or_else 0 (after c (at_most s limit))) p) (walk (at_most s limit) c)
-  unfolding list_of
-  list_of-walk limit = ap shape (next c (at_most s limit) 0 _)
+  pub optional-refused : {k : Refusal} {q : ℕ} → up_to s 1 unknown at ≡ refused k q → shape (optional s p at) ≡ Err (stop k q)
+  unfolding optional and_then
+  optional-refused h = rw h refl
 
--- the same, as the code has the count, the step after it and the step after the fields
-pub list_of-read : {A : Type 0} (s : List ℕ) (p : Field A) (c : Step) (limit : ℕ) {g : Got ℕ} {d r : Step} {k : ℕ}
-    → g ≡ after c (at_most s limit) → d ≡ shape g → k ≡ or_else 0 g → r ≡ walk (many k p) d → r ≡ walk (list_of s limit p) c
-list_of-read s p c limit {g} {d} {r} {k} eg ed ek er =
-    er ∙ ap₂ (λ (j : ℕ) (d : Step). walk (many j p) d) (ek ∙ ap (or_else 0) eg) (ed ∙ ap shape eg) ∙ sym (list_of-walk s p c limit)
+  pub list-taken : (limit : ℕ) {k n : ℕ} → at_most s limit at ≡ took k n → shape (list_of s limit p at) ≡ shape (many k p n)
+  unfolding list_of and_then
+  list-taken limit h = rw h refl
 
-pub bytes-walk : (s : List ℕ) (limit : ℕ) (c : Step) → walk (bytes s limit) c ≡ walk (raw s (or_else 0 (after c (at_most s limit)))) (walk (at_most s limit) c)
-unfolding bytes
-bytes-walk s limit c = ap shape (next c (at_most s limit) 0 _)
+  pub list-refused : (limit : ℕ) {k : Refusal} {q : ℕ} → at_most s limit at ≡ refused k q → shape (list_of s limit p at) ≡ Err (stop k q)
+  unfolding list_of and_then
+  list-refused limit h = rw h refl
+
+module _ (s : List ℕ) (limit at : ℕ) where
+  pub bytes-taken : {k n : ℕ} → at_most s limit at ≡ took k n → shape (bytes s limit at) ≡ shape (raw s k n)
+  unfolding bytes and_then
+  bytes-taken h = rw h refl
+
+  pub bytes-refused : {k : Refusal} {q : ℕ} → at_most s limit at ≡ refused k q → shape (bytes s limit at) ≡ Err (stop k q)
+  unfolding bytes and_then
+  bytes-refused h = rw h refl
+
+-- raw bytes are refused where they should begin
+pub raw_refused_here : (s : List ℕ) (count at : ℕ) {e : Stop} → Err e ≡ shape (raw s count at) → e.place ≡ at
+unfolding raw
+raw_refused_here s count at {e} h = by_test (leb (at + count) (length s)) h
+  where
+    by_test : (b : Bool) → Err e ≡ shape (pick b (took (take count (drop at s)) (at + count)) (refused bytes_run_out at)) → e.place ≡ at
+    by_test true h = absurd (let z : ◌≡◌ {A = ℕ} 0 1 = cc in omega arith)
+    by_test false h = let same : e ≡ stop bytes_run_out at = cc in ap (λ (e : Stop). e.place) same
 
 -- a number that was taken is within its limit
-pub up_to_value : (s : List ℕ) (most why : ℕ) (c : Step) → or_else 0 (after c (up_to s most why)) ≤ most
+pub up_to_value : (s : List ℕ) (most : ℕ) (why : Refusal) (at : ℕ) {v n : ℕ} → up_to s most why at ≡ took v n → v ≤ most
 unfolding such and_then
-up_to_value s most why (Stop k q) = omega arith
-up_to_value s most why (At at) = whole
+up_to_value s most why at = by_got (number s at)
   where
-    by_test : (v n : ℕ) (b : Bool) → leb v most ≡ b → or_else 0 (pick b (took v n) (refused why at)) ≤ most
-    by_test v n true e = leb-true v most e
-    by_test v n false e = omega arith
+    by_test : (u m : ℕ) {v n : ℕ} (b : Bool) → leb u most ≡ b → pick b (took u m) (refused why at) ≡ took v n → v ≤ most
+    by_test u m {v} true t e = let is : u ≡ v = cc in leb-true v most (ap (λ (w : ℕ). leb w most) (sym is) ∙ t)
+    by_test u m false t e = never e
 
-    by_got : (g : Got ℕ) → or_else 0 (and_then g (λ v n. pick (leb v most) (took v n) (refused why at))) ≤ most
-    by_got (took v n) = by_test v n (leb v most) refl
-    by_got (refused k q) = omega arith
+    by_got : (g : Got ℕ) {v n : ℕ} → and_then g (λ v n. pick (leb v most) (took v n) (refused why at)) ≡ took v n → v ≤ most
+    by_got (took u m) e = by_test u m (leb u most) refl e
+    by_got (refused k q) e = never e
 
-    whole : or_else 0 (up_to s most why at) ≤ most
-    whole = by_got (number s at)
+-- ---- fields that end alike
+
+-- a field of which only its end is known ends there
+ending-at : (c : Result ℕ Stop) → shape {A = Unit} (after c (λ next. took tt next)) ≡ c
+ending-at (Ok n) = refl
+ending-at (Err e) = refl
+
+-- a loop over fields of which only their ends are known: `at` is the place after n of them
+module _ (ends : ℕ → Result ℕ Stop) (start : ℕ) where
+  pub many_begun : Ok start ≡ shape (many 0 (ending ends) start)
+  many_begun = sym (many-none (ending ends) (Ok start))
+
+  module _ (n : ℕ) {at : ℕ} (here : Ok at ≡ shape (many n (ending ends) start)) where
+    one_more : shape (many (suc n) (ending ends) start) ≡ ends at
+    one_more = many-last (ending ends) n (Ok start) ∙ ap (walk (ending ends)) (sym here) ∙ ending-at (ends at)
+
+    pub many_went : {at' : ℕ} → Ok at' ≡ ends at → Ok at' ≡ shape (many (n + 1) (ending ends) start)
+    many_went e = rw add-one (e ∙ sym one_more)
+
+    rest-stopped : (m : ℕ) {e : Stop} → Err e ≡ ends at → Err e ≡ shape (many (m + suc n) (ending ends) start)
+    rest-stopped zero h = rw zero-add (h ∙ sym one_more)
+    rest-stopped (suc m) h =
+        let more : suc m + suc n ≡ suc (m + suc n) = omega arith in
+        rw more (ap (walk (ending ends)) (rest-stopped m h) ∙ sym (many-last (ending ends) (m + suc n) (Ok start)))
+
+    pub many_stopped : (count : ℕ) → n < count → {e : Stop} → Err e ≡ ends at → Err e ≡ shape (many count (ending ends) start)
+    many_stopped count lt h = let is : count - suc n + suc n ≡ count = omega arith in rw is at (rest-stopped (count - suc n) h)
+
+module _ {A : Type 0} (p : Field A) (s : List ℕ) where
+  abbrev pub same : Field Unit
+  same = ending (λ at. shape (p at))
+
+  pub same-end : (at : ℕ) → shape (same at) ≡ shape (p at)
+  same-end at = ending-at (shape (p at))
+
+  same-walk : (c : Result ℕ Stop) → walk same c ≡ walk p c
+  same-walk (Ok at) = same-end at
+  same-walk (Err e) = refl
+
+  same-times : (n : ℕ) (c : Result ℕ Stop) → walk (many n same) c ≡ walk (many n p) c
+  same-times zero c = many-none same c ∙ sym (many-none p c)
+  same-times (suc n) c = many-first same n c ∙ ap (walk (many n same)) (same-walk c) ∙ same-times n (walk p c) ∙ sym (many-first p n c)
+
+  pub same-many : (n at : ℕ) → shape (many n same at) ≡ shape (many n p at)
+  same-many n at = same-times n (Ok at)
+
+  pub same-list : (limit at : ℕ) → shape (list_of s limit same at) ≡ shape (list_of s limit p at)
+  same-list limit at = by_got (at_most s limit at) refl
+    where
+      by_got : (g : Got ℕ) → at_most s limit at ≡ g → shape (list_of s limit same at) ≡ shape (list_of s limit p at)
+      by_got (took k n) h = list-taken s same at limit h ∙ same-many k n ∙ sym (list-taken s p at limit h)
+      by_got (refused k q) h = list-refused s same at limit h ∙ sym (list-refused s p at limit h)
+
+  pub same-optional : (at : ℕ) → shape (optional s same at) ≡ shape (optional s p at)
+  same-optional at = by_got (up_to s 1 unknown at) refl
+    where
+      by_got : (g : Got ℕ) → up_to s 1 unknown at ≡ g → shape (optional s same at) ≡ shape (optional s p at)
+      by_got (took zero n) h = optional-none s same at h ∙ sym (optional-none s p at h)
+      by_got (took (suc k) n) h = optional-some s same at h (λ e. omega arith) ∙ same-end n ∙ sym (optional-some s p at h (λ e. omega arith))
+      by_got (refused k q) h = optional-refused s same at h ∙ sym (optional-refused s p at h)
 
 -- ---- many fields with a limit over all
 
 module _ {A : Type 0} (size : A → ℕ) (p : ℕ → Field A) where
-  pub within_none : (left : ℕ) (c : Step) → walk (within size left 0 p) c ≡ c
+  pub within_none : (left : ℕ) (c : Result ℕ Stop) → walk (within size left 0 p) c ≡ c
   unfolding within
-  within_none left (At n) = refl
-  within_none left (Stop n q) = refl
+  within_none left (Ok n) = refl
+  within_none left (Err e) = refl
 
   -- the first, of size k where it was taken, and the rest with what it leaves
-  pub within_first : (left n k : ℕ) (c : Step) → ((x : A) (e : ℕ) → after c (p left) ≡ took x e → size x ≡ k)
+  pub within_first : (left n k : ℕ) (c : Result ℕ Stop) → ((x : A) (e : ℕ) → after c (p left) ≡ took x e → size x ≡ k)
       → walk (within size left (suc n) p) c ≡ walk (within size (left - k) n p) (walk (p left) c)
   unfolding within and_then
-  within_first left n k (Stop j q) h = refl
-  within_first left n k (At at) h = by_got (p left at) h
+  within_first left n k (Err e) h = refl
+  within_first left n k (Ok at) h = by_got (p left at) h
     where
       dressed : (x : A) (g : Got (List A)) → shape (and_then g (λ xs e. took (x ∷ xs) e)) ≡ shape g
       dressed x (took xs e) = refl

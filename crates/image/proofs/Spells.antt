@@ -9,6 +9,7 @@ use lib.ListN.{length, take, drop, length-append, length-drop}
 use lib.Seq.{length-take-le}
 use lib.Dec.{ltb, leb, eqb}
 use borrow.Author.Tests.{ltb-true, leb-true}
+use Rattle.value.specs.declared.refusal.Refusal.{Refusal}
 use Rattle.value.specs.Answer.{pick}
 use Rattle.value.specs.Refusal.{unknown, over_limit}
 use Rattle.image.specs.Parse.{took, refused, Field, give, many, within, ◌>>=◌, ◌<$>◌, one, two, three, four, five}
@@ -128,7 +129,7 @@ module _ {s : List ℕ} (bs : AreBytes s) where
   pub number_spells : Spells s [] (number s) W.number (λ v. v < 2 ^ 64)
   number_spells = itself (λ at next v e. ((next, e, refl), small s bs at next v e))
 
-  pub such_spells : (test : ℕ → Bool) (why : ℕ) → Spells s [] (such s test why) W.number (λ v. (v < 2 ^ 64) × (test v ≡ true))
+  pub such_spells : (test : ℕ → Bool) (why : Refusal) → Spells s [] (such s test why) W.number (λ v. (v < 2 ^ 64) × (test v ≡ true))
   unfolding such
   such_spells test why =
       itself (λ at next v e.
@@ -137,10 +138,10 @@ module _ {s : List ℕ} (bs : AreBytes s) where
       let reads = i.first ∙ j.1 in
       ((next, reads, refl), (small s bs at next v reads, ap test (sym (same-value j.1)) ∙ j.0)))
 
-  pub below_spells : (limit why : ℕ) → Spells s [] (below s limit why) W.number (λ v. v < limit)
+  pub below_spells : (limit : ℕ) (why : Refusal) → Spells s [] (below s limit why) W.number (λ v. v < limit)
   below_spells limit why = onto (such_spells (λ v. ltb v limit) why) (λ v h. (refl, ltb-true v limit h.1))
 
-  pub up_to_spells : (most why : ℕ) → Spells s [] (up_to s most why) W.number (λ v. v ≤ most)
+  pub up_to_spells : (most : ℕ) (why : Refusal) → Spells s [] (up_to s most why) W.number (λ v. v ≤ most)
   up_to_spells most why = onto (such_spells (λ v. leb v most) why) (λ v h. (refl, leb-true v most h.1))
 
 -- the number of what it stands for

@@ -8,6 +8,7 @@ use mathlib.Core.Option.{Option, none, some}
 use lib.ListN.{length, length-append}
 use lib.Dec.{ltb, leb, eqb}
 use borrow.Author.Tests.{lt-ltb, le-leb}
+use Rattle.value.specs.declared.refusal.Refusal.{Refusal}
 use Rattle.value.specs.Answer.{pick}
 use Rattle.value.specs.Refusal.{unknown, over_limit}
 use Rattle.image.specs.Parse.{Got, took, refused, Field, and_then, give, many, within, ◌>>=◌, ◌<$>◌, ◌<*>◌, two, three, four, five}
@@ -93,7 +94,7 @@ module _ {s : List ℕ} where
   pub number_takes : {v : ℕ} → v < 2 ^ 64 → Takes s (number s) (W.number v) v
   number_takes {v} h = record { reads = number_read s v; can = one_each Writable (num v) h }
 
-  pub such_takes : (test : ℕ → Bool) (why : ℕ) {v : ℕ} → v < 2 ^ 64 → test v ≡ true → Takes s (such s test why) (W.number v) v
+  pub such_takes : (test : ℕ → Bool) (why : Refusal) {v : ℕ} → v < 2 ^ 64 → test v ≡ true → Takes s (such s test why) (W.number v) v
   unfolding such and_then
   such_takes test why {v} h t = record {
     reads = λ at end st.
@@ -102,10 +103,10 @@ module _ {s : List ℕ} where
     can = one_each Writable (num v) h;
   }
 
-  pub below_takes : (limit why : ℕ) {v : ℕ} → limit ≤ 2 ^ 64 → v < limit → Takes s (below s limit why) (W.number v) v
+  pub below_takes : (limit : ℕ) (why : Refusal) {v : ℕ} → limit ≤ 2 ^ 64 → v < limit → Takes s (below s limit why) (W.number v) v
   below_takes limit why {v} l h = such_takes (λ v. ltb v limit) why (omega arith) (lt-ltb v limit h)
 
-  pub up_to_takes : (most why : ℕ) {v : ℕ} → most < 2 ^ 64 → v ≤ most → Takes s (up_to s most why) (W.number v) v
+  pub up_to_takes : (most : ℕ) (why : Refusal) {v : ℕ} → most < 2 ^ 64 → v ≤ most → Takes s (up_to s most why) (W.number v) v
   up_to_takes most why {v} l h = such_takes (λ v. leb v most) why (omega arith) (le-leb v most h)
 
   pub known_takes : {A : Type 0} (item : ℕ → Option A) {a : A} (k : ℕ) → k < 2 ^ 64 → item k ≡ some a → Takes s (known s item) (W.number k) a

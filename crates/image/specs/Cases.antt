@@ -2,7 +2,8 @@
 use Rattle.std.specs.Prelude.{ℕ, Bool, true, false, ◌&&◌, List, [], ◌∷◌, ◌≡◌, refl, length, take, replicate, eqb}
 use Rattle.std.proofs.Math.Option.{some}
 use Rattle.value.specs.Cases.{Case, all_hold}
-use Rattle.value.specs.Refusal.{bytes_run_out, malformed, unknown, over_limit, beyond_count, left_over}
+use Rattle.value.specs.declared.refusal.Refusal as Enum
+use Rattle.value.specs.Refusal.{bytes_run_out, malformed, unknown, over_limit, beyond_count, left_over, number_of}
 use Rattle.value.specs.Value.{Kind, value, tag, is_scalar}
 use Rattle.value.specs.Bytes.{same_bytes}
 use Rattle.value.specs.Tags.{named, kind_at, type_of_kind, typed, holds, int_cmp_at}
@@ -67,14 +68,14 @@ pub record Refusal : Type 0 where
 
 unfoldable pub refused_as : {A : Type 0} → Got A → ℕ → ℕ → Bool
 refused_as (took a next) number place = false
-refused_as (refused m p) number place = eqb m number && eqb p place
+refused_as (refused m p) number place = eqb (number_of m) number && eqb p place
 
 unfoldable pub all_refused : List Refusal → Bool
 all_refused [] = true
 all_refused (r ∷ rs) = refused_as (loaded r.bytes) r.number r.place && all_refused rs
 
-abbrev refusal : List ℕ → ℕ → ℕ → Refusal
-refusal s n p = record { bytes = s; number = n; place = p }
+abbrev refusal : List ℕ → Enum.Refusal → ℕ → Refusal
+refusal s why p = record { bytes = s; number = number_of why; place = p }
 
 -- no variables, constants or functions, and one block of these
 abbrev block : List ℕ → List ℕ
@@ -139,7 +140,7 @@ abbrev pub p11 : List Case
 p11 =
     eleventh (number_is (number (0xac ∷ 0x02 ∷ []) 0) 300 2)
     ∷ eleventh (same_bytes (bytes_of 300) (0xac ∷ 0x02 ∷ []))
-    ∷ eleventh (refused_as (number (0x80 ∷ 0x00 ∷ []) 0) malformed 0)
+    ∷ eleventh (refused_as (number (0x80 ∷ 0x00 ∷ []) 0) (number_of malformed) 0)
     ∷ []
 
 pub p11-holds : all_hold p11 ≡ true

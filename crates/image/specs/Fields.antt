@@ -1,6 +1,7 @@
 -- The kinds of field that an image is made of, each by a number or by raw bytes. A refusal's place is "the first byte of the refused field".
 use Rattle.std.specs.Prelude.{ℕ, ◌+◌, Bool, List, length, get_or, take, drop, ltb, leb, eqb}
 use Rattle.std.proofs.Math.Option.{Option, none, some}
+use Rattle.value.specs.declared.refusal.Refusal.{Refusal}
 use Rattle.value.specs.Answer.{pick}
 use Rattle.value.specs.Refusal.{bytes_run_out, unknown, over_limit, left_over}
 use Rattle.image.specs.Parse.{Got, took, refused, Field, and_then, give, many, ◌<$>◌, ◌>>=◌}
@@ -16,19 +17,19 @@ abbrev pub listed : {A : Type 0} → List (Option A) → ℕ → Option A
 listed items v = get_or items v none
 
 -- a number that was read at a place and passes a test, else the refusal `why` there
-abbrev pub tested : (test : ℕ → Bool) → (why at : ℕ) → Got ℕ → Got ℕ
+abbrev pub tested : (test : ℕ → Bool) → (why : Refusal) → (at : ℕ) → Got ℕ → Got ℕ
 tested test why at g = and_then g (λ v next. pick (test v) (took v next) (refused why at))
 
 -- the fields of the image whose bytes are s
 module _ (s : List ℕ) where
   -- a number that passes a test, else the refusal `why`
-  unfoldable pub such : (test : ℕ → Bool) → (why : ℕ) → Field ℕ
+  unfoldable pub such : (test : ℕ → Bool) → (why : Refusal) → Field ℕ
   such test why at = tested test why at (number s at)
 
-  abbrev pub below : (limit why : ℕ) → Field ℕ
+  abbrev pub below : (limit : ℕ) → (why : Refusal) → Field ℕ
   below limit why = such (λ v. ltb v limit) why
 
-  abbrev pub up_to : (most why : ℕ) → Field ℕ
+  abbrev pub up_to : (most : ℕ) → (why : Refusal) → Field ℕ
   up_to most why = such (λ v. leb v most) why
 
   -- "4 a count, size or running total over its limit"

@@ -1,10 +1,11 @@
 -- The vocabulary of the image's definition: what reading a field finds, and how fields are put one after another.
 use Rattle.std.specs.Prelude.{ℕ, zero, suc, ◌-◌, List, [], ◌∷◌}
+use Rattle.value.specs.declared.refusal.Refusal.{Refusal}
 
 -- A value and the place after it, or a refusal's number and place.
 pub data Got (A : Type 0) : Type 0 where
   took : A → ℕ → Got A
-  refused : ℕ → ℕ → Got A
+  refused : Refusal → ℕ → Got A
 
 -- A field: what is found at a place.
 abbrev pub Field : Type 0 → Type 0

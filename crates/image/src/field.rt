@@ -1,170 +1,98 @@
-// Fields of an image, read one after another: each starts from the step before it, whose refusal stays.
-ghost use Rattle.std.specs.Prelude.{◌≡◌, eqb};
+// Fields of an image: each is read at its place, and the next where it ends.
+ghost use Rattle.std.specs.Prelude.{ℕ, ◌≡◌, ◌<◌, ◌^◌, Bool, eqb};
 ghost use Rattle.value.specs.Refusal.{unknown};
 ghost use Rattle.value.specs.Tags.{kind_at, held};
-ghost use Rattle.image.specs.Number.{number};
 ghost use Rattle.image.specs.Fields.{such, below, up_to, raw, at_end};
-ghost use Rattle.image.specs.Answer.{got, shape, after, or_else, place_of, walk, is_type};
+ghost use Rattle.image.specs.Answer.{got, shape, is_type};
 
-use crate::number::{Number, read_number};
-use value::refusal::{BYTES_RUN_OUT, LEFT_OVER, UNKNOWN};
-use value::{IrType, IrValue, Tagged};
+use crate::number::{Stop, read_number};
+use value::refusal::Refusal;
+use value::{IrType, IrValue};
 
-// The place after the fields that were read, or the first refusal's number and place.
-#[derive(Clone, Copy)]
-pub enum Step {
-    At(usize),
-    Stop(u64, usize),
-}
-
-// The place after a number.
-pub fn past(n: Number) -> Step
-    ensures { result ≡ shape (got n) }
+// A number that passes the test, else `why`.
+fn tested_after<F: Fn(u64) -> bool>(
+    image: &[u8],
+    at: usize,
+    why: Refusal,
+    test: F,
+) -> Result<(u64, usize), Stop>
+    requires { F.IsAlwaysCallable test }
+    ensures { (passes : ℕ → Bool) → ((v : ℕ) (r : Bool) → v < 2 ^ 64 → F.post test v r → r ≡ passes v) → got result ≡ such image.now passes why at }
 {
-    match n {
-        Number::Value(_, next) => Step::At(next),
-        Number::Bad(k, p) => Step::Stop(k, p),
-    }
-}
-
-// The number, or 0 where it was refused.
-pub fn value(n: Number) -> u64
-    ensures { result ≡ or_else 0 (got n) }
-{
-    match n {
-        Number::Value(v, _) => v,
-        Number::Bad(_, _) => 0,
-    }
-}
-
-// The place of a step.
-pub fn place(c: Step) -> usize
-    ensures { result ≡ place_of c }
-{
-    match c {
-        Step::At(at) => at,
-        Step::Stop(_, p) => p,
-    }
-}
-
-// Any number.
-pub fn number_after(image: &[u8], c: Step) -> Number
-    ensures { got result ≡ after c (number image.now) }
-{
-    match c {
-        Step::At(at) => read_number(image, at),
-        Step::Stop(k, p) => Number::Bad(k, p),
+    let (v, next) = read_number(image, at)?;
+    if test(v) {
+        Ok((v, next))
+    } else {
+        Err(Stop { why, place: at })
     }
 }
 
 // A number below `limit`, else `why`.
-pub fn below_after(image: &[u8], c: Step, limit: u64, why: u64) -> Number
-    ensures { got result ≡ after c (below image.now limit why) }
+pub fn below_after(image: &[u8], at: usize, limit: u64, why: Refusal) -> Result<(u64, usize), Stop>
+    ensures { got result ≡ below image.now limit why at }
 {
-    match number_after(image, c) {
-        Number::Value(v, next) => {
-            if v < limit {
-                Number::Value(v, next)
-            } else {
-                Number::Bad(why, place(c))
-            }
-        }
-        Number::Bad(k, p) => Number::Bad(k, p),
-    }
+    tested_after(image, at, why, |v| v < limit)
 }
 
 // A number of at most `most`, else `why`.
-pub fn up_to_after(image: &[u8], c: Step, most: u64, why: u64) -> Number
-    ensures { got result ≡ after c (up_to image.now most why) }
+pub fn up_to_after(image: &[u8], at: usize, most: u64, why: Refusal) -> Result<(u64, usize), Stop>
+    ensures { got result ≡ up_to image.now most why at }
 {
-    match number_after(image, c) {
-        Number::Value(v, next) => {
-            if v <= most {
-                Number::Value(v, next)
-            } else {
-                Number::Bad(why, place(c))
-            }
-        }
-        Number::Bad(k, p) => Number::Bad(k, p),
-    }
+    tested_after(image, at, why, |v| v <= most)
 }
 
 // The number `only` and no other: a version, or a flag that must be set.
-pub fn only_after(image: &[u8], c: Step, only: u64) -> Number
-    ensures { got result ≡ after c (such image.now (λ v. eqb v only) unknown) }
+pub fn only_after(image: &[u8], at: usize, only: u64) -> Result<(u64, usize), Stop>
+    ensures { got result ≡ such image.now (λ v. eqb v only) unknown at }
 {
-    match number_after(image, c) {
-        Number::Value(v, next) => {
-            if v == only {
-                Number::Value(v, next)
-            } else {
-                Number::Bad(UNKNOWN, place(c))
-            }
-        }
-        Number::Bad(k, p) => Number::Bad(k, p),
-    }
+    tested_after(image, at, Refusal::Unknown, |v| v == only)
 }
 
 // A type's tag.
-pub fn type_after(image: &[u8], c: Step) -> Number
-    ensures { got result ≡ after c (such image.now is_type unknown) }
+#[tactic(auto, using(crate::proofs::Tests::type_found))]
+pub fn type_after(image: &[u8], at: usize) -> Result<(u64, usize), Stop>
+    ensures { got result ≡ such image.now is_type unknown at }
 {
-    match number_after(image, c) {
-        Number::Value(v, next) => match IrType::from_tag(v) {
-            Tagged::Type(_) => Number::Value(v, next),
-            Tagged::Nothing => Number::Bad(UNKNOWN, place(c)),
-        },
-        Number::Bad(k, p) => Number::Bad(k, p),
-    }
+    tested_after(
+        image,
+        at,
+        Refusal::Unknown,
+        |v| IrType::from_tag(v).is_some(),
+    )
 }
 
 // The bits of a value with this tag.
-pub fn bits_after(image: &[u8], c: Step, tag: u64) -> Number
-    ensures { got result ≡ after c (such image.now (held (kind_at tag)) unknown) }
+pub fn bits_after(image: &[u8], at: usize, tag: u64) -> Result<(u64, usize), Stop>
+    ensures { got result ≡ such image.now (held (kind_at tag)) unknown at }
 {
-    match number_after(image, c) {
-        Number::Value(v, next) => {
-            if IrValue::fits(tag, v) {
-                Number::Value(v, next)
-            } else {
-                Number::Bad(UNKNOWN, place(c))
-            }
-        }
-        Number::Bad(k, p) => Number::Bad(k, p),
-    }
+    tested_after(image, at, Refusal::Unknown, |v| IrValue::fits(tag, v))
 }
 
-// `count` raw bytes.
-pub fn raw_after(image: &[u8], c: Step, count: usize) -> Step
-    ensures { result ≡ walk (raw image.now count) c }
+// The place after `count` raw bytes.
+#[tactic(auto, using(std::proofs::lemmas::Bool::Decides::nat_tests), unfolding(crate::specs::Fields::raw))]
+pub fn raw_after(image: &[u8], at: usize, count: usize) -> Result<usize, Stop>
+    ensures { result ≡ shape (raw image.now count at) }
 {
-    match c {
-        Step::At(at) => {
-            if image.len() < at {
-                Step::Stop(BYTES_RUN_OUT, at)
-            } else if image.len() - at < count {
-                Step::Stop(BYTES_RUN_OUT, at)
-            } else {
-                Step::At(at + count)
-            }
-        }
-        Step::Stop(k, p) => Step::Stop(k, p),
+    if image.len() < at || image.len() - at < count {
+        return Err(Stop {
+            why: Refusal::BytesRunOut,
+            place: at,
+        });
     }
+    Ok(at + count)
 }
 
 // The image's end.
 #[tactic(auto, using(std::proofs::lemmas::Bool::Decides::nat_tests), unfolding(crate::specs::Fields::at_end))]
-pub fn end_after(image: &[u8], c: Step) -> Step
-    ensures { result ≡ walk (at_end image.now) c }
+pub fn end_after(image: &[u8], at: usize) -> Result<usize, Stop>
+    ensures { result ≡ shape (at_end image.now at) }
 {
-    match c {
-        Step::At(at) => {
-            if image.len() <= at {
-                Step::At(at)
-            } else {
-                Step::Stop(LEFT_OVER, at)
-            }
-        }
-        Step::Stop(k, p) => Step::Stop(k, p),
+    if image.len() <= at {
+        Ok(at)
+    } else {
+        Err(Stop {
+            why: Refusal::LeftOver,
+            place: at,
+        })
     }
 }

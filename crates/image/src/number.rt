@@ -3,62 +3,53 @@ ghost use Rattle.std.specs.Prelude.{◌≡◌, length};
 ghost use Rattle.image.specs.Number.{number, bytes_of};
 ghost use Rattle.image.specs.Answer.{got, Stored};
 
-use value::refusal::{BYTES_RUN_OUT, MALFORMED};
+use value::refusal::Refusal;
 
-// A number and the place after it, or a refusal's number and place.
-#[derive(Clone, Copy)]
-pub enum Number {
-    Value(u64, usize),
-    Bad(u64, usize),
+// Why an image is refused, and the first byte of the refused field.
+#[derive(Clone, Copy, Debug, PartialEq, Eq)]
+pub struct Stop {
+    pub why: Refusal,
+    pub place: usize,
 }
 
-fn wide(x: u8) -> u64
-    ensures { result ≡ x }
-{
-    x as u64
-}
-
-// The number at `start`.
+// The number at `start`, and the place after it.
 #[tactic(auto, using(crate::proofs::Groups::padded_number))]
-pub fn read_number(image: &[u8], start: usize) -> Number
+pub fn read_number(image: &[u8], start: usize) -> Result<(u64, usize), Stop>
     ensures { got result ≡ number image.now start }
 {
+    let runs_out = Stop {
+        why: Refusal::BytesRunOut,
+        place: start,
+    };
+    let malformed = Stop {
+        why: Refusal::Malformed,
+        place: start,
+    };
     let mut at = start;
-    let mut left: u64 = 9;
     let mut weight: u64 = 1;
     let mut sum: u64 = 0;
-    while 0 < left {
+    for group in 0..9u32 {
         if image.len() <= at {
-            return Number::Bad(BYTES_RUN_OUT, start);
+            return Err(runs_out);
         }
-        let b = wide(image[at]);
+        let b = u64::from(image[at]);
+        at += 1;
         if b < 128 {
-            if b == 0 {
-                if left < 9 {
-                    return Number::Bad(MALFORMED, start);
-                }
+            if b == 0 && 0 < group {
+                return Err(malformed);
             }
-            return Number::Value(sum + b * weight, at + 1);
+            return Ok((sum + b * weight, at));
         }
         sum += (b - 128) * weight;
         weight *= 128;
-        at += 1;
-        left -= 1;
     }
     if image.len() <= at {
-        return Number::Bad(BYTES_RUN_OUT, start);
+        return Err(runs_out);
     }
     if image[at] == 1 {
-        return Number::Value(sum + weight, at + 1);
+        return Ok((sum + weight, at + 1));
     }
-    Number::Bad(MALFORMED, start)
-}
-
-// The place after the bytes that were written, or that they have no room.
-#[derive(Clone, Copy)]
-pub enum Written {
-    To(usize),
-    Full,
+    Err(malformed)
 }
 
 // How many bytes the number takes.
@@ -67,35 +58,28 @@ pub fn length_of(v: u64) -> usize
 {
     let mut n: usize = 1;
     let mut left = v;
-    let mut spare: usize = 9;
     while 128 <= left {
-        left = left / 128;
-        spare -= 1;
+        left /= 128;
         n += 1;
     }
     n
 }
 
-// Writes the number's bytes from `start` on, or nothing where they have no room.
-pub fn write_number(v: u64, out: &mut [u8], start: usize) -> Written
+// Writes the number's bytes from `start` on, and answers the place after them; or nothing where they have no room.
+pub fn write_number(v: u64, out: &mut [u8], start: usize) -> Option<usize>
     ensures { Stored (bytes_of v) start out.old result out.new }
 {
     let n = length_of(v);
-    if out.len() < n {
-        return Written::Full;
-    }
-    if out.len() - n < start {
-        return Written::Full;
+    if out.len() < n || out.len() - n < start {
+        return None;
     }
     let mut at = start;
     let mut left = v;
-    let mut spare: usize = 9;
     while 128 <= left {
         out[at] = (left % 128 + 128) as u8;
-        left = left / 128;
-        spare -= 1;
+        left /= 128;
         at += 1;
     }
     out[at] = left as u8;
-    Written::To(at + 1)
+    Some(at + 1)
 }

@@ -1,28 +1,26 @@
 // The list's images through the loader.
 use crate::line::Line;
-use crate::{line, say};
-use image::field::Step;
+use crate::say;
 use loader::load::load;
 use std::rt::{Env, Files};
 use std::{env, fs, io};
 
 // A refusal, or 0 and 0.
-#[derive(Clone, Copy)]
+#[derive(Clone, Copy, Debug, PartialEq, Eq)]
 pub struct Answer {
     pub number: u64,
     pub place: u64,
 }
 
 fn answered(image: &[u8]) -> Answer {
-    let end = load(image).end;
-    match end {
-        Step::At(_) => Answer {
+    match load(image) {
+        Ok(_) => Answer {
             number: 0,
             place: 0,
         },
-        Step::Stop(number, place) => Answer {
-            number,
-            place: place as u64,
+        Err(stop) => Answer {
+            number: stop.why.number(),
+            place: stop.place as u64,
         },
     }
 }
@@ -31,20 +29,16 @@ fn answered(image: &[u8]) -> Answer {
 fn tell(tally: &mut [u64], number: u64) {
     let at = number as usize;
     if at < tally.len() {
-        tally[at] = std::num::wrapping_add_u64(tally[at], 1);
+        tally[at] = tally[at].wrapping_add(1);
     }
 }
 
 fn agrees(line: Line, a: Answer) -> bool {
-    if line::whole(line) {
-        if line.number == a.number {
-            line.place == a.place
-        } else {
-            false
-        }
-    } else {
-        false
-    }
+    let said = Answer {
+        number: line.number,
+        place: line.place,
+    };
+    line.is_whole() && said == a
 }
 
 // No refusal's number.
@@ -94,11 +88,13 @@ pub struct Progress {
     pub right: u64,
 }
 
-fn begun() -> Progress {
-    Progress {
-        line: line::fresh(),
-        lines: 0,
-        right: 0,
+impl Progress {
+    fn new() -> Progress {
+        Progress {
+            line: Line::new(),
+            lines: 0,
+            right: 0,
+        }
     }
 }
 
@@ -113,21 +109,19 @@ fn advance(
     let mut q = p;
     if byte == b'\n' {
         let good = tried(q.line, image, tally);
-        q.lines = std::num::wrapping_add_u64(q.lines, 1);
-        q.right = std::num::wrapping_add_u64(q.right, judged(rt, good, q.lines)?);
-        q.line = line::fresh();
+        q.lines = q.lines.wrapping_add(1);
+        q.right = q.right.wrapping_add(judged(rt, good, q.lines)?);
+        q.line = Line::new();
         return Ok(q);
     }
-    q.line = line::next(q.line, byte, image);
+    q.line = q.line.next(byte, image);
     Ok(q)
 }
 
 fn compare(rt: &impl Print, s: &[u8], image: &mut [u8], tally: &mut [u64]) -> io::Result<()> {
-    let mut p = begun();
-    let mut i = 0usize;
-    while i < s.len() {
-        p = advance(rt, p, s[i], image, tally)?;
-        i += 1;
+    let mut p = Progress::new();
+    for byte in s {
+        p = advance(rt, p, *byte, image, tally)?;
     }
     print_right(rt, p.right, p.lines)
 }
@@ -143,11 +137,9 @@ fn label(rt: &impl Print, number: u64) -> io::Result<()> {
 
 // How many were taken, and refused by each number.
 fn print_tally(rt: &impl Print, tally: &[u64]) -> io::Result<()> {
-    let mut i = 0usize;
-    while i < tally.len() {
-        label(rt, i as u64)?;
-        say::count(rt, tally[i])?;
-        i += 1;
+    for (number, count) in tally.iter().enumerate() {
+        label(rt, number as u64)?;
+        say::count(rt, *count)?;
     }
     Ok(())
 }

@@ -2,62 +2,37 @@
 // pieces joined by `+`: hex digits, or hex digits, `*` and how often.
 
 // What is read of a line: the field that it is in, and the fields so far. The image's bytes go into a buffer.
-#[derive(Clone, Copy)]
+#[derive(Clone, Copy, Debug, PartialEq, Eq)]
 pub struct Line {
     pub field: u64,
     pub length: usize,
     // where the piece starts
     pub start: usize,
-    // the first digit of a byte, or NONE
-    pub high: u64,
+    // the first digit of a byte
+    pub high: Option<u64>,
     pub starred: bool,
     pub times: u64,
     pub number: u64,
     pub place: u64,
 }
 
-// The worth of what is no digit.
-pub const NONE: u64 = 16;
+// The worth of what is no digit, in a number.
+const NONE: u64 = 16;
 
 // The field of a line whose image is malformed: it has no answer after it.
 const MALFORMED: u64 = 3;
 
-pub fn fresh() -> Line {
-    Line {
-        field: 0,
-        length: 0,
-        start: 0,
-        high: NONE,
-        starred: false,
-        times: 0,
-        number: 0,
-        place: 0,
-    }
-}
-
-fn wide(byte: u8) -> u64 {
-    byte as u64
-}
-
 // A hex digit's worth.
-fn digit(byte: u8) -> u64 {
-    if byte < b'0' {
-        return NONE;
+fn digit(byte: u8) -> Option<u64> {
+    match byte {
+        b'0'..=b'9' => Some(u64::from(byte - b'0')),
+        b'a'..=b'f' => Some(u64::from(byte - b'a' + 10)),
+        _ => None,
     }
-    if byte <= b'9' {
-        return wide(byte - b'0');
-    }
-    if byte < b'a' {
-        return NONE;
-    }
-    if byte <= b'f' {
-        return wide(byte - b'a' + 10);
-    }
-    NONE
 }
 
 fn longer(n: u64, byte: u8) -> u64 {
-    (n % 1_000_000) * 10 + digit(byte) % 32
+    (n % 1_000_000) * 10 + digit(byte).unwrap_or(NONE) % 32
 }
 
 fn put(image: &mut [u8], at: usize, n: u64) {
@@ -68,33 +43,22 @@ fn put(image: &mut [u8], at: usize, n: u64) {
 
 // The byte at a place becomes the one `size` before it.
 fn again(image: &mut [u8], at: usize, size: usize) {
-    if at < size {
-        return;
-    }
-    let from = at - size;
-    if at < image.len() {
-        if from < image.len() {
-            image[at] = image[from];
-        }
+    if size <= at && at < image.len() {
+        image[at] = image[at - size];
     }
 }
 
 // The place after, as far as it matters.
 fn after(at: usize) -> usize {
-    if at < 65536 {
-        return at + 1;
-    }
-    at
+    if at < 65536 { at + 1 } else { at }
 }
 
 // The `size` bytes before a place, once more.
 fn copied(image: &mut [u8], first: usize, size: usize) -> usize {
     let mut at = first;
-    let mut n = 0usize;
-    while n < size {
+    for _ in 0..size {
         again(image, at, size);
         at = after(at);
-        n += 1;
     }
     at
 }
@@ -102,115 +66,115 @@ fn copied(image: &mut [u8], first: usize, size: usize) -> usize {
 // The `size` bytes before a place are there once: the place after so many times.
 fn repeat(image: &mut [u8], first: usize, size: usize, times: u64) -> usize {
     let mut at = first;
-    let mut n = 1u64;
-    while n < times {
+    for _ in 1..times {
         at = copied(image, at, size);
-        n += 1;
     }
     at
 }
 
-fn size(start: usize, length: usize) -> usize {
-    if start <= length {
-        return length - start;
+impl Line {
+    pub fn new() -> Line {
+        Line {
+            field: 0,
+            length: 0,
+            start: 0,
+            high: None,
+            starred: false,
+            times: 0,
+            number: 0,
+            place: 0,
+        }
     }
-    0
-}
 
-// The next piece starts here.
-fn closed(line: Line) -> Line {
-    let mut l = line;
-    l.start = l.length;
-    l.starred = false;
-    l.times = 0;
-    l
-}
+    // The piece's end: it is there as often as it should, and the next piece starts here.
+    fn finished(self, image: &mut [u8]) -> Line {
+        let length = if self.starred {
+            let size = self.length.saturating_sub(self.start);
+            repeat(image, self.length, size, self.times)
+        } else {
+            self.length
+        };
+        Line {
+            length,
+            start: length,
+            starred: false,
+            times: 0,
+            ..self
+        }
+    }
 
-fn repeated(line: Line, image: &mut [u8]) -> Line {
-    let mut l = line;
-    l.length = repeat(image, l.length, size(l.start, l.length), l.times);
-    closed(l)
-}
+    // One more hex digit.
+    fn half(self, byte: u8, image: &mut [u8]) -> Line {
+        match (digit(byte), self.high) {
+            (None, _) => Line {
+                field: MALFORMED,
+                ..self
+            },
+            (high, None) => Line { high, ..self },
+            (Some(low), Some(high)) => {
+                put(image, self.length, (high % 16) * 16 + low % 16);
+                Line {
+                    length: after(self.length),
+                    high: None,
+                    ..self
+                }
+            }
+        }
+    }
 
-// The piece's end: it is there as often as it should.
-fn finished(line: Line, image: &mut [u8]) -> Line {
-    if line.starred {
-        return repeated(line, image);
+    // One more byte of the first field.
+    fn piece(self, byte: u8, image: &mut [u8]) -> Line {
+        match byte {
+            b'-' => self,
+            b'+' => self.finished(image),
+            b'*' => Line {
+                starred: true,
+                ..self
+            },
+            _ if self.starred => Line {
+                times: longer(self.times, byte),
+                ..self
+            },
+            _ => self.half(byte, image),
+        }
     }
-    closed(line)
-}
 
-// One more hex digit.
-fn half(line: Line, worth: u64, image: &mut [u8]) -> Line {
-    let mut l = line;
-    if worth == NONE {
-        l.field = MALFORMED;
-        return l;
+    // The field's end.
+    fn ended(self, image: &mut [u8]) -> Line {
+        Line {
+            field: self.field % 8 + 1,
+            ..self.finished(image)
+        }
     }
-    if l.high == NONE {
-        l.high = worth;
-        return l;
-    }
-    put(image, l.length, (l.high % 16) * 16 + worth % 16);
-    l.length = after(l.length);
-    l.high = NONE;
-    l
-}
 
-// One more byte of the first field.
-fn piece(line: Line, byte: u8, image: &mut [u8]) -> Line {
-    let mut l = line;
-    if byte == b'-' {
-        return l;
+    // One more byte of the answer.
+    fn refusal(self, byte: u8) -> Line {
+        if self.field == 1 {
+            Line {
+                number: longer(self.number, byte),
+                ..self
+            }
+        } else {
+            Line {
+                place: longer(self.place, byte),
+                ..self
+            }
+        }
     }
-    if byte == b'+' {
-        return finished(l, image);
-    }
-    if byte == b'*' {
-        l.starred = true;
-        return l;
-    }
-    if l.starred {
-        l.times = longer(l.times, byte);
-        return l;
-    }
-    half(l, digit(byte), image)
-}
 
-// The field's end.
-fn ended(line: Line, image: &mut [u8]) -> Line {
-    let mut l = finished(line, image);
-    l.field = l.field % 8 + 1;
-    l
-}
-
-// One more byte of the answer.
-fn refusal(line: Line, byte: u8) -> Line {
-    let mut l = line;
-    if l.field == 1 {
-        l.number = longer(l.number, byte);
-        return l;
+    // One more byte of the line.
+    pub fn next(self, byte: u8, image: &mut [u8]) -> Line {
+        if byte == b' ' {
+            self.ended(image)
+        } else if self.field == 0 {
+            self.piece(byte, image)
+        } else {
+            self.refusal(byte)
+        }
     }
-    l.place = longer(l.place, byte);
-    l
-}
 
-// One more byte of the line.
-pub fn next(line: Line, byte: u8, image: &mut [u8]) -> Line {
-    if byte == b' ' {
-        return ended(line, image);
-    }
-    if line.field == 0 {
-        return piece(line, byte, image);
-    }
-    refusal(line, byte)
-}
-
-// Whether the line had three fields and its image whole bytes.
-pub fn whole(line: Line) -> bool {
-    if line.field == 2 {
-        line.high == NONE
-    } else {
-        false
+    // Whether the line had three fields and its image whole bytes.
+    pub fn is_whole(self) -> bool {
+        self.field == 2 && self.high.is_none()
     }
 }

@@ -1,6 +1,8 @@
 -- A part of the walk writes what it reads: by the bytes of what was read, and one part after another.
-use Prim.Native.Nat.{ℕ, zero, suc, ◌+◌, ◌≤◌, ◌<◌}
+use Rattle.std.specs.Prelude.{Option, unwrap_or, Ok, Err}
+use Prim.Native.Nat.{ℕ, zero, suc, ◌+◌, ◌-◌, ◌≤◌}
 use native.Mathlib.Numerals.{add-one}
+use native.Mathlib.Decide.{dec_le}
 use native.Mathlib.Omega.{arith}
 use mathlib.Core.Bool.{false}
 use mathlib.Core.Path.{◌≡◌, refl, sym, ap, ap₂, subst, ◌∙◌}
@@ -10,20 +12,20 @@ use mathlib.Core.List.{List, [], ◌∷◌, ◌++◌, append_assoc}
 use lib.ListN.{length, take, drop, length-append, length-drop, take-append-drop}
 use borrow.Author.Tests.{le-leb, lt-leb, eq-eqb, ne_eqb}
 use lib.Seq.{sets-eq, length-take-le, take_at, drop-drop, take-add, take-append_seam, drop-append-add}
-use Rattle.image.specs.Parse.{Got, took, refused, and_then}
+use Rattle.value.specs.declared.refusal.Refusal.{Refusal}
+use Rattle.image.specs.Parse.{Got, took, refused}
 use Rattle.image.specs.Number.{number, bytes_of}
-use Rattle.image.specs.Answer.{got, shape, after, or_else, Stored}
-use Rattle.image.specs.declared.number.Number.{Number}
-use Rattle.image.specs.declared.number.Number.TheVariants.{Value, Bad}
-use Rattle.image.specs.declared.number.Written.{Written}
-use Rattle.image.specs.declared.field.Step.{Step}
+use Rattle.image.specs.Answer.{stop, shape, Stored}
+use Rattle.image.specs.declared.number.Stop.{Stop}
+use Rattle.value.specs.Refusal.{bytes_run_out}
+use Rattle.loader.proofs.Turn.{shape-refused}
 use Rattle.image.specs.Fields.{raw}
 use Rattle.image.proofs.Round.{written_reads, read_spells}
-use Rattle.image_writer.specs.Answer.{place_after, Kept, Passed}
+use Rattle.image_writer.specs.Answer.{Kept, Passed}
 use Rattle.image.specs.Limits.{Each, AreBytes}
-use Rattle.image_writer.specs.Past.{end_of, among, number_at, past_number, past_pair, past_raw, times, past_optional, past_list, past_bytes, past_fields, past_instruction, past_parts, past_whole}
+use Rattle.image_writer.specs.Past.{end_of, or_else, among, number_at, pair, past_number, past_pair, past_raw, times, past_optional, past_list, past_bytes, past_fields, past_instruction, past_parts, past_whole}
 use Rattle.image_writer.specs.declared.writer.Pass.{Pass}
-use Rattle.image.proofs.Parts.{parts, same_place}
+use Rattle.image.proofs.Parts.{parts, same-value, same_place}
 use Rattle.image.proofs.Spells.{alone, number_spells}
 use Rattle.image_writer.proofs.Stores.{has_room, number-length}
 
@@ -36,7 +38,7 @@ pub record Lies (s x : List ℕ) (from next : ℕ) : Type 0 where
   pub inside : next ≤ length s
 
 module _ (s b x : List ℕ) (from next : ℕ) (h : Lies s x from next) (enough : length s ≤ length b) where
-  pub stored-kept : (to to' : ℕ) (out after : List ℕ) (w : Written) → Stored x to out w after → to' ≡ place_after w to → Kept s b from to out → Kept s b next to' after
+  pub stored-kept : (to to' : ℕ) (out after : List ℕ) (w : Option ℕ) → Stored x to out w after → to' ≡ unwrap_or w to → Kept s b from to out → Kept s b next to' after
   stored-kept to to' out after w st p k =
       let front : length (take from s) ≡ from = length-take-le from s k.inside in
       let long : length out ≡ length b = ap length k.front ∙ length-append (take from s) (drop from b) ∙ omega (arith, length-drop from b, h.ends, h.inside) in
@@ -48,7 +50,7 @@ module _ (s b x : List ℕ) (from next : ℕ) (h : Lies s x from next) (enough :
       let more : take next s ≡ take from s ++ x =
       ap (λ (n : ℕ). take n s) h.ends ∙ take-add from (length x) s ∙ ap (λ (l : List ℕ). take from s ++ take (length x) l) h.bytes ∙ ap (λ (l : List ℕ). take from s ++ l) (take-append_seam x (drop next s)) in
       record {
-        even = p ∙ ap (λ (w : Written). place_after w to) room.0 ∙ omega (arith, h.ends, k.even);
+        even = p ∙ ap (λ (w : Option ℕ). unwrap_or w to) room.0 ∙ omega (arith, h.ends, k.even);
         inside = h.inside;
         front =
             room.1 ∙ sets-eq x out to (omega (arith, h.ends, h.inside, k.even))
@@ -68,31 +70,23 @@ number_lies s bs at v next e =
 
 -- ---- numbers, read and written
 
-module _ (s : List ℕ) (bs : AreBytes s) (c : Pass) (before : List ℕ) (g : Number) (e : got g ≡ number s c.from) where
-  pub number_passed : (v next to : ℕ) (w : Written) (after : List ℕ) → g ≡ Value v next → Stored (bytes_of v) c.to before w after → to ≡ place_after w c.to
+module _ (s : List ℕ) (bs : AreBytes s) (c : Pass) (before : List ℕ) where
+  pub number_passed : {v next to : ℕ} {w : Option ℕ} {after : List ℕ} → number s c.from ≡ took v next → Stored (bytes_of v) c.to before w after → to ≡ unwrap_or w c.to
       → Passed s (past_number s) c before (record { value = v; from = next; to = to }) after × (v ≡ number_at s c.from)
   unfolding past_number number_at
-  number_passed v next to w after f h p =
-      let took_it : number s c.from ≡ took v next = sym e ∙ ap got f in (
-        record {
-          place = ap (λ (g : Got ℕ). end_of g c.from) (sym took_it);
-          keeps = λ b enough k. stored-kept s b (bytes_of v) c.from next (number_lies s bs c.from v next took_it) enough c.to to before after w h p k;
-        },
-        ap (or_else 0) (sym took_it),
-      )
+  number_passed {v} {next} {to} {w} {after} read h p = (
+    record {
+      place = ap (λ (g : Got ℕ). end_of g c.from) (sym read);
+      keeps = λ b enough k. stored-kept s b (bytes_of v) c.from next (number_lies s bs c.from v next read) enough c.to to before after w h p k;
+    },
+    ap (or_else 0) (sym read),
+  )
 
-  pub number-stays : (n q : ℕ) → g ≡ Bad n q → Passed s (past_number s) c before (record { value = 0; from = c.from; to = c.to }) before × (0 ≡ number_at s c.from)
+  pub number-stays : {n : Refusal} {q : ℕ} → number s c.from ≡ refused n q → Passed s (past_number s) c before (record { value = 0; from = c.from; to = c.to }) before × (0 ≡ number_at s c.from)
   unfolding past_number number_at
-  number-stays n q f =
-      let refused_it : number s c.from ≡ refused n q = sym e ∙ ap got f in
-      (record { place = ap (λ (g : Got ℕ). end_of g c.from) (sym refused_it); keeps = λ b enough k. k }, ap (or_else 0) (sym refused_it))
+  number-stays read = (record { place = ap (λ (g : Got ℕ). end_of g c.from) (sym read); keeps = λ b enough k. k }, ap (or_else 0) (sym read))
 
 -- ---- pairs
-
-pair_got : (s : List ℕ) (g : Got ℕ) → and_then g (λ first. number s) ≡ after (shape g) (number s)
-unfolding and_then
-pair_got s (took v n) = refl
-pair_got s (refused n q) = refl
 
 two_lie : (s x y : List ℕ) (at mid next : ℕ) → Lies s x at mid → Lies s y mid next → Lies s (x ++ y) at next
 two_lie s x y at mid next h k = record {
@@ -101,53 +95,60 @@ two_lie s x y at mid next h k = record {
   inside = k.inside;
 }
 
-module _ (s : List ℕ) (bs : AreBytes s) (c : Pass) (before : List ℕ) (f g : Number) (e : got f ≡ number s c.from) (d : Step) (p : d ≡ shape (got f)) (e' : got g ≡ after d (number s)) where
-  whole_pair : and_then (number s c.from) (λ first. number s) ≡ got g
-  whole_pair = pair_got s (number s c.from) ∙ ap (λ (g : Got ℕ). after (shape g) (number s)) (sym e) ∙ ap (λ (d : Step). after d (number s)) (sym p) ∙ sym e'
-
-  pub pair_passed : (u v next to : ℕ) (w : Written) (after : List ℕ) → u ≡ or_else 0 (got f) → g ≡ Value v next → Stored (bytes_of u ++ bytes_of v) c.to before w after → to ≡ place_after w c.to
+module _ (s : List ℕ) (bs : AreBytes s) (c : Pass) (before : List ℕ) where
+  pub pair_passed : {u v next to : ℕ} {w : Option ℕ} {after : List ℕ} → pair s c.from ≡ took (u, v) next → Stored (bytes_of u ++ bytes_of v) c.to before w after → to ≡ unwrap_or w c.to
       → Passed s (past_pair s) c before (record { value = v; from = next; to = to }) after
-  unfolding past_pair
-  pair_passed u v next to w after is k h q =
-      let whole : and_then (number s c.from) (λ first. number s) ≡ took v next = whole_pair ∙ ap got k in
-      let i = parts (number s c.from) (λ first. number s) v next whole in
-      let same : i.value ≡ u = ap (or_else 0) (sym i.first) ∙ ap (or_else 0) (sym e) ∙ sym is in
+  unfolding past_pair pair
+  pair_passed {u} {v} {next} {to} {w} {after} read h q =
+      let i = parts (number s c.from) _ (u, v) next read in
+      let j = parts (number s i.place) _ (u, v) next i.then' in
+      let same : took (i.value, j.value) j.place ≡ took (u, v) next = j.then' in
+      let is : (i.value, j.value) ≡ (u, v) = same-value same in
       let first = number_lies s bs c.from i.value i.place i.first in
-      let second = number_lies s bs i.place v next i.then' in
+      let second = number_lies s bs i.place j.value next (j.first ∙ ap (took j.value) (same_place same)) in
       let lies : Lies s (bytes_of u ++ bytes_of v) c.from next =
-      subst (λ (k : ℕ). Lies s (bytes_of k ++ bytes_of v) c.from next) same (two_lie s (bytes_of i.value) (bytes_of v) c.from i.place next first second) in
+      subst (λ (k : ℕ × ℕ). Lies s (bytes_of k.0 ++ bytes_of k.1) c.from next) is (two_lie s (bytes_of i.value) (bytes_of j.value) c.from i.place next first second) in
       record {
-        place = ap (λ (g : Got ℕ). end_of g c.from) (sym whole);
+        place = ap (λ (g : Got (ℕ × ℕ)). end_of g c.from) (sym read);
         keeps = λ b enough k. stored-kept s b (bytes_of u ++ bytes_of v) c.from next lies enough c.to to before after w h q k;
       }
 
-  pub pair_stays : (n q : ℕ) → g ≡ Bad n q → Passed s (past_pair s) c before (record { value = 0; from = c.from; to = c.to }) before
+  pub pair_stays : {n : Refusal} {q : ℕ} → pair s c.from ≡ refused n q → Passed s (past_pair s) c before (record { value = 0; from = c.from; to = c.to }) before
   unfolding past_pair
-  pair_stays n q k = record { place = ap (λ (g : Got ℕ). end_of g c.from) (sym (whole_pair ∙ ap got k)); keeps = λ b enough k. k }
+  pair_stays read = record { place = ap (λ (g : Got (ℕ × ℕ)). end_of g c.from) (sym read); keeps = λ b enough k. k }
 
 -- ---- raw bytes
 
+-- raw bytes that are there
+pub raw-there : (s : List ℕ) (at count : ℕ) {end : ℕ} → Ok end ≡ shape (raw s count at) → (end ≡ at + count) × (at + count ≤ length s)
+unfolding raw
+raw-there s at count {end} h = by_test (dec_le (at + count) (length s))
+  where
+    by_test : Dec (at + count ≤ length s) → (end ≡ at + count) × (at + count ≤ length s)
+    by_test (yes le) = let is : Ok end ≡ Ok (at + count) = rw (le-leb (at + count) (length s) le) at h in (cc, le)
+    by_test (no gt) = absurd (let is : Ok end ≡ Err (stop bytes_run_out at) = rw (lt-leb (at + count) (length s) (omega arith)) at h in let z : ◌≡◌ {A = ℕ} 0 1 = cc in omega arith)
+
 module _ (s : List ℕ) (c : Pass) (before : List ℕ) (count : ℕ) where
-  pub raw-passed : (m to : ℕ) (w : Written) (after : List ℕ) → m ≡ count → c.from + count ≤ length s → Stored (take m (drop c.from s)) c.to before w after → to ≡ place_after w c.to
-      → Passed s (past_raw s count) c before (record { value = 0; from = c.from + count; to = to }) after
+  pub raw-passed : {end to : ℕ} {w : Option ℕ} {after : List ℕ} → Ok end ≡ shape (raw s count c.from) → Stored (take (end - c.from) (drop c.from s)) c.to before w after → to ≡ unwrap_or w c.to
+      → Passed s (past_raw s count) c before (record { value = 0; from = end; to = to }) after
   unfolding past_raw raw
-  raw-passed m to w after e room h q =
-      let x = take m (drop c.from s) in
-      let long : length (take m (drop c.from s)) ≡ count = length-take-le m (drop c.from s) (omega (arith, length-drop c.from s)) ∙ e in
-      let place : c.from + m ≡ c.from + count = ap (λ (k : ℕ). c.from + k) e in
-      let lies : Lies s (take m (drop c.from s)) c.from (c.from + count) = record {
-        bytes = sym (take-append-drop m (drop c.from s)) ∙ ap (λ (l : List ℕ). take m (drop c.from s) ++ l) (drop-drop m c.from s ∙ ap (λ (k : ℕ). drop k s) place);
-        ends = omega arith;
-        inside = room;
+  raw-passed {end} {to} {w} {after} read h q =
+      let there = raw-there s c.from count read in
+      let m = end - c.from in
+      let long : length (take (end - c.from) (drop c.from s)) ≡ count = length-take-le (end - c.from) (drop c.from s) (omega (arith, there.0, there.1, length-drop c.from s)) ∙ omega (arith, there.0) in
+      let lies : Lies s (take (end - c.from) (drop c.from s)) c.from end = record {
+        bytes = sym (take-append-drop (end - c.from) (drop c.from s)) ∙ ap (λ (l : List ℕ). take (end - c.from) (drop c.from s) ++ l) (drop-drop (end - c.from) c.from s ∙ ap (λ (k : ℕ). drop k s) (omega (arith, there.0)));
+        ends = omega (arith, there.0, long);
+        inside = omega (arith, there.0, there.1);
       } in
       record {
-        place = rw (le-leb (c.from + count) (length s) room);
-        keeps = λ b enough k. stored-kept s b (take m (drop c.from s)) c.from (c.from + count) lies enough c.to to before after w h q k;
+        place = rw (le-leb (c.from + count) (length s) there.1) there.0;
+        keeps = λ b enough k. stored-kept s b (take (end - c.from) (drop c.from s)) c.from end lies enough c.to to before after w h q k;
       }
 
-  pub raw-stays : length s < c.from + count → Passed s (past_raw s count) c before (record { value = 0; from = c.from; to = c.to }) before
-  unfolding past_raw raw
-  raw-stays over = record { place = rw (lt-leb (c.from + count) (length s) over); keeps = λ b enough k. k }
+  pub raw-stays : {e : Stop} → Err e ≡ shape (raw s count c.from) → Passed s (past_raw s count) c before (record { value = 0; from = c.from; to = c.to }) before
+  unfolding past_raw
+  raw-stays read = record { place = rw (shape-refused (sym read)) refl; keeps = λ b enough k. k }
 
 -- ---- one part after another
 

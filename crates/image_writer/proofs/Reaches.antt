@@ -2,23 +2,23 @@
 use Prim.Native.Nat.{ℕ, zero, suc, ◌-◌}
 use native.Mathlib.Omega.{arith}
 use mathlib.Core.Bool.{Bool, true, false}
-use mathlib.Core.Path.{◌≡◌, sym, ap, ap₂, subst, ◌∙◌}
+use mathlib.Core.Path.{◌≡◌, refl, sym, ap, ap₂, subst, ◌∙◌}
 use mathlib.Core.List.{List, ◌∷◌}
 use mathlib.Core.Option.{Option, none, some, map, some-injective, none-ne-some}
 use lib.ListN.{length}
 use lib.Dec.{leb, eqb}
 use borrow.Author.Tests.{leb-true}
+use Rattle.value.specs.declared.refusal.Refusal.{Refusal}
 use Rattle.value.specs.Answer.{pick}
 use Rattle.value.specs.Refusal.{unknown, over_limit, beyond_count, left_over}
 use Rattle.value.specs.Value.{Kind, value}
 use Rattle.value.specs.Tags.{kind_at, type_at, holds, int_cmp_at, float_cmp_at}
 use Rattle.image.specs.Parse.{Got, took, refused, Field, and_then, give, many, within, ◌>>=◌, ◌<$>◌, one, two, three, four, five}
 use Rattle.image.specs.Number.{number}
-use Rattle.image.specs.Answer.{or_else}
 use Rattle.image.specs.Fields.{such, at_most, listed, known, meant, optional, list_of, raw, bytes, at_end}
 use Rattle.image.specs.Image.{Counts, versions, flags, items, flags_of, most_parameters, header, literal_of, u32, size, type, var, label, constant, callee, form, operand, slot, branch, declared, table, instruction, function}
 use Rattle.image.specs.Program.{Operand, literal, Instruction, Jump, Switch, Assign, ConstantAddress, Call, Return, IntCmp', FloatCmp', Add, Sub, Mul, Div, Mod, FDiv, Not, Negate, Offset, Initialize, Write, Read, Copy, Drop}
-use Rattle.image_writer.specs.Past.{end_of, times, among, number_at, past_number, past_pair, past_raw, past_optional, past_list, past_bytes, past_switch, past_call, past_chosen, past_three, past_typed, past_two, past_initialize, past_write, past_copy, past_fields, past_instruction, past_function, past_parts, past_whole}
+use Rattle.image_writer.specs.Past.{end_of, or_else, pair, times, among, number_at, past_number, past_pair, past_raw, past_optional, past_list, past_bytes, past_switch, past_call, past_chosen, past_three, past_typed, past_two, past_initialize, past_write, past_copy, past_fields, past_instruction, past_function, past_parts, past_whole}
 use Rattle.image.proofs.Parts.{parts, picked, Every, every-at, meant-some, two_right, three_right, four_right, five_right, same-value, same_place}
 use Rattle.image_writer.proofs.Keeps.{same_parts}
 use Rattle.image.proofs.Plain.{plain, plain_parts}
@@ -78,7 +78,7 @@ within_reaches size h left (suc n) = then_reaches (h left) (λ x. one_reaches (�
 
 -- ---- numbers
 
-such-number : (s : List ℕ) (test : ℕ → Bool) (why at next v : ℕ) → such s test why at ≡ took v next → number s at ≡ took v next
+such-number : (s : List ℕ) (test : ℕ → Bool) (why : Refusal) (at next v : ℕ) → such s test why at ≡ took v next → number s at ≡ took v next
 unfolding such
 such-number s test why at next v e =
     let i = parts (number s at) (λ v next. pick (test v) (took v next) (refused why at)) v next e in
@@ -89,7 +89,7 @@ module _ (s : List ℕ) where
   number_numeric : Numeric s (number s)
   number_numeric = record { reads = λ at next v e. (v, e) }
 
-  such_numeric : (test : ℕ → Bool) (why : ℕ) → Numeric s (such s test why)
+  such_numeric : (test : ℕ → Bool) (why : Refusal) → Numeric s (such s test why)
   such_numeric test why = record { reads = λ at next v e. (v, such-number s test why at next v e) }
 
   known_numeric : {A : Type 0} (item : ℕ → Option A) → Numeric s (known s item)
@@ -115,6 +115,10 @@ module _ (s : List ℕ) where
 
   -- ---- pairs
 
+  pair-end : (at : ℕ) {u v mid next : ℕ} → number s at ≡ took u mid → number s mid ≡ took v next → past_pair s at ≡ next
+  unfolding past_pair pair and_then
+  pair-end at e f = rw (e, f) refl
+
   pair_reaches : {A B : Type 0} {p : Field A} {k : A → Field B} → Numeric s p → ((a : A) → Numeric s (k a)) → Reaches (p >>= k) (past_pair s)
   unfolding past_pair and_then
   pair_reaches {A} {B} {p} {k} h t = record {
@@ -122,7 +126,7 @@ module _ (s : List ℕ) where
         let i = parts (p at) k b next e in
         let n = h.reads at i.place i.value i.first in
         let m = (t i.value).reads i.place next b i.then' in
-        ap (λ (g : Got ℕ). end_of (and_then g (λ first. number s)) at) n.1 ∙ ap (λ (g : Got ℕ). end_of g at) m.1;
+        pair-end at n.1 m.1;
   }
 
   two-numbers : {A B Z : Type 0} {p : Field A} {q : Field B} (f : A → B → Z) → Numeric s p → Numeric s q → Reaches (two f p q) (past_pair s)
@@ -136,13 +140,13 @@ module _ (s : List ℕ) where
         let j = parts (number s at) (λ v next. meant (row_of v) at next) i.value i.place i.first in
         let k = meant-some (row_of j.value) at j.place i.place i.value j.then' in
         let m = (law j.value i.value k.0).reads i.place next b i.then' in
-        ap (λ (g : Got ℕ). end_of (and_then g (λ first. number s)) at) (j.first ∙ ap (took j.value) k.1) ∙ ap (λ (g : Got ℕ). end_of g at) m.1;
+        pair-end at (j.first ∙ ap (took j.value) k.1) m.1;
   }
 
   -- ---- shapes of fields
 
   -- a number, and what it announces
-  announced : {B : Type 0} (test : ℕ → Bool) (why : ℕ) {k : ℕ → Field B} (past : ℕ → ℕ → ℕ) → ((v : ℕ) → test v ≡ true → Reaches (k v) (past v))
+  announced : {B : Type 0} (test : ℕ → Bool) (why : Refusal) {k : ℕ → Field B} (past : ℕ → ℕ → ℕ) → ((v : ℕ) → test v ≡ true → Reaches (k v) (past v))
       → Reaches (such s test why >>= k) (λ at. past (number_at s at) (past_number s at))
   unfolding number_at past_number such
   announced {B} test why {k} past t = record {

@@ -1,15 +1,19 @@
 -- How far the fields of an image reach, their limits left aside: what the private parts of the writer's walk promise. The entry's contract rests on `loaded` and `written` alone.
 use Rattle.std.specs.Prelude.{ℕ, zero, suc, Bool, false, ◌||◌, List, [], ◌∷◌, eqb}
 use Rattle.value.specs.Answer.{pick}
-use Rattle.image.specs.Parse.{Got, took, refused, ◌>>=◌}
+use Rattle.image.specs.Parse.{Got, took, refused, Field, give, ◌>>=◌}
 use Rattle.image.specs.Number.{number}
 use Rattle.image.specs.Fields.{raw}
-use Rattle.image.specs.Answer.{or_else}
 
 -- the place after what was read, or where it stood
 abbrev pub end_of : {A : Type 0} → Got A → ℕ → ℕ
 end_of (took a next) at = next
 end_of (refused n place) at = at
+
+-- the value, or `d` where it was refused
+abbrev pub or_else : {A : Type 0} → A → Got A → A
+or_else d (took a next) = a
+or_else d (refused n place) = d
 
 -- so many times, one after another
 unfoldable pub times : ℕ → (ℕ → ℕ) → ℕ → ℕ
@@ -28,8 +32,11 @@ module _ (s : List ℕ) where
   past_number at = end_of (number s at) at
 
   -- two numbers: an operand's tag and bits, a slot, a branch, a declaration
+  unfoldable pub pair : Field (ℕ × ℕ)
+  pair = number s >>= λ first. number s >>= λ second. give (first, second)
+
   unfoldable pub past_pair : ℕ → ℕ
-  past_pair at = end_of ((number s >>= λ first. number s) at) at
+  past_pair at = end_of (pair at) at
 
   unfoldable pub past_raw : (count : ℕ) → ℕ → ℕ
   past_raw count at = end_of (raw s count at) at

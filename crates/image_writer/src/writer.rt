@@ -1,30 +1,21 @@
 // From an accepted image through its program back to bytes: each field is read, and written from its value.
-ghost use Rattle.std.specs.Prelude.{◌≡◌};
-ghost use Rattle.image_writer.specs.Answer.{Passed, Rewrote, place_after};
-ghost use Rattle.image_writer.specs.Past.{times, number_at, past_number, past_pair, past_raw, past_optional, past_list, past_bytes, past_switch, past_call, past_chosen, past_three, past_typed, past_two, past_initialize, past_write, past_copy, past_fields, past_instruction, past_function, past_parts, past_whole};
+ghost use Rattle.std.specs.Prelude.{ℕ, ◌≡◌, List};
+ghost use Rattle.image_writer.specs.declared.writer.WriteError.TheVariants.{NotLoaded};
+ghost use Rattle.image_writer.specs.Answer.{Passed, Passes, Rewrote, got_pair};
+ghost use Rattle.image_writer.specs.Past.{times, number_at, pair, past_number, past_pair, past_raw, past_optional, past_list, past_bytes, past_switch, past_call, past_chosen, past_three, past_typed, past_two, past_initialize, past_write, past_copy, past_fields, past_instruction, past_function, past_parts, past_whole};
 
 use crate::field::{write_bytes, write_pair};
-use image::field::{Step, number_after, past, value};
-use image::number::{Number, Written, read_number, write_number};
+use image::field::raw_after;
+use image::number::{Stop, read_number, write_number};
 use loader::load::load;
-use value::refusal::SHORT_BUFFER;
 
-// Where reading stands in the image and writing in the buffer, and the last number that was read.
+// Where reading stands in the image and writing in the buffer, and the last number that was read. The walk has no refusal to hand
+// on by `?`: the image was loaded and has room, so `write_image` cannot fail in it, and what cannot be read is passed by.
 #[derive(Clone, Copy)]
 pub struct Pass {
     pub value: u64,
     pub from: usize,
     pub to: usize,
-}
-
-// The place after what was written, or where it stood.
-fn place_of(w: Written, start: usize) -> usize
-    ensures { result ≡ place_after w start }
-{
-    match w {
-        Written::To(at) => at,
-        Written::Full => start,
-    }
 }
 
 // A number.
@@ -33,41 +24,34 @@ fn pass_number(image: &[u8], out: &mut [u8], c: Pass) -> Pass
     ensures number { result.value ≡ number_at image.now c.from }
 {
     match read_number(image, c.from) {
-        Number::Value(v, next) => {
-            let to = place_of(write_number(v, out, c.to), c.to);
-            Pass {
-                value: v,
-                from: next,
-                to,
-            }
+        Ok((value, from)) => {
+            let to = write_number(value, out, c.to).unwrap_or(c.to);
+            Pass { value, from, to }
         }
-        Number::Bad(_, _) => Pass {
-            value: 0,
-            from: c.from,
-            to: c.to,
-        },
+        Err(_) => Pass { value: 0, ..c },
     }
+}
+
+// The two numbers at a place, and the place after them.
+#[tactic(auto, unfolding(crate::specs::Past::pair, image::specs::Parse::and_then))]
+fn read_pair(image: &[u8], at: usize) -> Result<(u64, u64, usize), Stop>
+    ensures { got_pair result ≡ pair image.now at }
+{
+    let (first, next) = read_number(image, at)?;
+    let (second, end) = read_number(image, next)?;
+    Ok((first, second, end))
 }
 
 // Two numbers: an operand's tag and bits, a slot, a branch, a declaration.
 fn pass_pair(image: &[u8], out: &mut [u8], c: Pass) -> Pass
     ensures { Passed image.now (past_pair image.now) c out.old result out.new }
 {
-    let first = read_number(image, c.from);
-    match number_after(image, past(first)) {
-        Number::Value(v, next) => {
-            let to = place_of(write_pair(value(first), v, out, c.to), c.to);
-            Pass {
-                value: v,
-                from: next,
-                to,
-            }
+    match read_pair(image, c.from) {
+        Ok((first, value, from)) => {
+            let to = write_pair(first, value, out, c.to).unwrap_or(c.to);
+            Pass { value, from, to }
         }
-        Number::Bad(_, _) => Pass {
-            value: 0,
-            from: c.from,
-            to: c.to,
-        },
+        Err(_) => Pass { value: 0, ..c },
     }
 }
 
@@ -75,85 +59,81 @@ fn pass_pair(image: &[u8], out: &mut [u8], c: Pass) -> Pass
 fn pass_raw(image: &[u8], out: &mut [u8], c: Pass, count: usize) -> Pass
     ensures { Passed image.now (past_raw image.now count) c out.old result out.new }
 {
-    let from = c.from;
-    let to = c.to;
-    if image.len() < from {
-        return Pass { value: 0, from, to };
-    }
-    if image.len() - from < count {
-        return Pass { value: 0, from, to };
-    }
-    let end = from + count;
-    let next = place_of(write_bytes(&image[from..end], out, to), to);
-    Pass {
-        value: 0,
-        from: end,
-        to: next,
+    match raw_after(image, c.from, count) {
+        Ok(end) => {
+            let to = write_bytes(&image[c.from..end], out, c.to).unwrap_or(c.to);
+            Pass {
+                value: 0,
+                from: end,
+                to,
+            }
+        }
+        Err(_) => Pass { value: 0, ..c },
     }
 }
 
-// So many variables.
-fn pass_numbers(image: &[u8], out: &mut [u8], start: Pass, count: u64) -> Pass
-    ensures { Passed image.now (times count (past_number image.now)) start out.old result out.new }
+// So many parts, one after another.
+fn pass_times<F: Fn(&mut [u8], Pass) -> Pass>(
+    out: &mut [u8],
+    start: Pass,
+    count: u64,
+    part: F,
+) -> Pass
+    requires { F.IsAlwaysCallable part }
+    ensures { (s : List ℕ) (past : ℕ → ℕ) → Passes s past (F.post part) → Passed s (times count past) start out.old result out.new }
 {
     let mut c = start;
-    let mut i: u64 = 0;
-    while i < count {
-        c = pass_number(image, out, c);
-        i += 1;
+    for _ in 0..count {
+        c = part(out, c);
     }
     c
 }
 
-// So many operands, slots or branches.
-fn pass_pairs(image: &[u8], out: &mut [u8], start: Pass, count: u64) -> Pass
-    ensures { Passed image.now (times count (past_pair image.now)) start out.old result out.new }
+// A count, and as many parts.
+fn pass_list<F: Fn(&mut [u8], Pass) -> Pass>(image: &[u8], out: &mut [u8], c: Pass, part: F) -> Pass
+    requires { F.IsAlwaysCallable part }
+    ensures { (past : ℕ → ℕ) → Passes image.now past (F.post part) → Passed image.now (past_list image.now past) c out.old result out.new }
 {
-    let mut c = start;
-    let mut i: u64 = 0;
-    while i < count {
-        c = pass_pair(image, out, c);
-        i += 1;
-    }
-    c
+    let count = pass_number(image, out, c);
+    pass_times(out, count, count.value, part)
 }
 
-// An optional variable.
-fn pass_optional_number(image: &[u8], out: &mut [u8], c: Pass) -> Pass
-    ensures { Passed image.now (past_optional image.now (past_number image.now)) c out.old result out.new }
+// A mark, and the part where the mark is 1.
+fn pass_optional<F: Fn(&mut [u8], Pass) -> Pass>(
+    image: &[u8],
+    out: &mut [u8],
+    c: Pass,
+    part: F,
+) -> Pass
+    requires { F.IsAlwaysCallable part }
+    ensures { (past : ℕ → ℕ) → Passes image.now past (F.post part) → Passed image.now (past_optional image.now past) c out.old result out.new }
 {
     let mark = pass_number(image, out, c);
     if mark.value == 0 {
         return mark;
     }
-    pass_number(image, out, mark)
+    part(out, mark)
+}
+
+// So many variables.
+fn pass_numbers(image: &[u8], out: &mut [u8], c: Pass, count: u64) -> Pass
+    ensures { Passed image.now (times count (past_number image.now)) c out.old result out.new }
+{
+    pass_times(out, c, count, |out, c| pass_number(image, out, c))
 }
 
 // An optional operand or declaration.
 fn pass_optional_pair(image: &[u8], out: &mut [u8], c: Pass) -> Pass
     ensures { Passed image.now (past_optional image.now (past_pair image.now)) c out.old result out.new }
 {
-    let mark = pass_number(image, out, c);
-    if mark.value == 0 {
-        return mark;
-    }
-    pass_pair(image, out, mark)
-}
-
-// A function's parameters.
-fn pass_number_list(image: &[u8], out: &mut [u8], c: Pass) -> Pass
-    ensures { Passed image.now (past_list image.now (past_number image.now)) c out.old result out.new }
-{
-    let count = pass_number(image, out, c);
-    pass_numbers(image, out, count, count.value)
+    pass_optional(image, out, c, |out, c| pass_pair(image, out, c))
 }
 
 // Arguments, slots or branches.
 fn pass_pair_list(image: &[u8], out: &mut [u8], c: Pass) -> Pass
     ensures { Passed image.now (past_list image.now (past_pair image.now)) c out.old result out.new }
 {
-    let count = pass_number(image, out, c);
-    pass_pairs(image, out, count, count.value)
+    pass_list(image, out, c, |out, c| pass_pair(image, out, c))
 }
 
 // A length, and raw bytes.
@@ -181,7 +161,7 @@ fn pass_call(image: &[u8], out: &mut [u8], c: Pass) -> Pass
     let context = pass_optional_pair(image, out, to);
     let function = pass_number(image, out, context);
     let arguments = pass_pair_list(image, out, function);
-    pass_optional_number(image, out, arguments)
+    pass_optional(image, out, arguments, |out, c| pass_number(image, out, c))
 }
 
 // IntCmp, FloatCmp, Div, Mod: to, comparison or flag, two operands.
@@ -278,25 +258,11 @@ fn pass_instruction(image: &[u8], out: &mut [u8], c: Pass) -> Pass
     pass_fields(image, out, opcode, opcode.value)
 }
 
-// So many instructions.
-fn pass_instructions(image: &[u8], out: &mut [u8], start: Pass, count: u64) -> Pass
-    ensures { Passed image.now (times count (past_instruction image.now)) start out.old result out.new }
-{
-    let mut c = start;
-    let mut i: u64 = 0;
-    while i < count {
-        c = pass_instruction(image, out, c);
-        i += 1;
-    }
-    c
-}
-
 // A block: instruction count, instructions.
 fn pass_block(image: &[u8], out: &mut [u8], c: Pass) -> Pass
     ensures { Passed image.now (past_list image.now (past_instruction image.now)) c out.old result out.new }
 {
-    let count = pass_number(image, out, c);
-    pass_instructions(image, out, count, count.value)
+    pass_list(image, out, c, |out, c| pass_instruction(image, out, c))
 }
 
 // A function: kind, entry, return variable, context variable, flag, parameters, slots.
@@ -304,47 +270,8 @@ fn pass_function(image: &[u8], out: &mut [u8], c: Pass) -> Pass
     ensures { Passed image.now (past_function image.now) c out.old result out.new }
 {
     let flag = pass_numbers(image, out, c, 5);
-    let parameters = pass_number_list(image, out, flag);
+    let parameters = pass_list(image, out, flag, |out, c| pass_number(image, out, c));
     pass_pair_list(image, out, parameters)
-}
-
-// So many constants.
-fn pass_constants(image: &[u8], out: &mut [u8], start: Pass, count: u64) -> Pass
-    ensures { Passed image.now (times count (past_bytes image.now)) start out.old result out.new }
-{
-    let mut c = start;
-    let mut i: u64 = 0;
-    while i < count {
-        c = pass_bytes(image, out, c);
-        i += 1;
-    }
-    c
-}
-
-// So many functions.
-fn pass_functions(image: &[u8], out: &mut [u8], start: Pass, count: u64) -> Pass
-    ensures { Passed image.now (times count (past_function image.now)) start out.old result out.new }
-{
-    let mut c = start;
-    let mut i: u64 = 0;
-    while i < count {
-        c = pass_function(image, out, c);
-        i += 1;
-    }
-    c
-}
-
-// So many blocks.
-fn pass_blocks(image: &[u8], out: &mut [u8], start: Pass, count: u64) -> Pass
-    ensures { Passed image.now (times count (past_list image.now (past_instruction image.now))) start out.old result out.new }
-{
-    let mut c = start;
-    let mut i: u64 = 0;
-    while i < count {
-        c = pass_block(image, out, c);
-        i += 1;
-    }
-    c
 }
 
 // Constants, functions and blocks, so many of each.
@@ -358,9 +285,9 @@ fn pass_parts(
 ) -> Pass
     ensures { Passed image.now (past_parts image.now constants functions blocks) c out.old result out.new }
 {
-    let raw = pass_constants(image, out, c, constants);
-    let code = pass_functions(image, out, raw, functions);
-    pass_blocks(image, out, code, blocks)
+    let raw = pass_times(out, c, constants, |out, c| pass_bytes(image, out, c));
+    let code = pass_times(out, raw, functions, |out, c| pass_function(image, out, c));
+    pass_times(out, code, blocks, |out, c| pass_block(image, out, c))
 }
 
 // The whole image: version and variables, the other counts, and what they count.
@@ -381,33 +308,33 @@ fn pass_whole(image: &[u8], out: &mut [u8], c: Pass) -> Pass
     )
 }
 
-// How many bytes were written; or the refusal: of the image with its place, or of the buffer.
-#[derive(Clone, Copy)]
-pub enum Outcome {
-    Done(usize),
-    Refused(u64, usize),
-    Short(u64),
+// Why nothing was written: the loader's refusal, or no room for the image.
+#[derive(Clone, Copy, Debug, PartialEq, Eq)]
+pub enum WriteError {
+    NotLoaded(Stop),
+    Short,
 }
 
-// An image through its program back to bytes, into `out`.
-pub fn write_image(image: &[u8], out: &mut [u8]) -> Outcome
+impl From<Stop> for WriteError {
+    ghost from_gives = { λ stop e. e ≡ NotLoaded stop };
+
+    fn from(stop: Stop) -> WriteError {
+        WriteError::NotLoaded(stop)
+    }
+}
+
+// An image through its program back to bytes, into `out`: how many were written.
+pub fn write_image(image: &[u8], out: &mut [u8]) -> Result<usize, WriteError>
     ensures { Rewrote image.now out.old result out.new }
 {
-    let loaded = load(image);
-    let last = loaded.end;
-    match last {
-        Step::Stop(number, place) => Outcome::Refused(number, place),
-        Step::At(end) => {
-            if out.len() < end {
-                return Outcome::Short(SHORT_BUFFER);
-            }
-            let start = Pass {
-                value: 0,
-                from: 0,
-                to: 0,
-            };
-            let done = pass_whole(image, out, start);
-            Outcome::Done(done.to)
-        }
+    let loaded = load(image)?;
+    if out.len() < loaded.end {
+        return Err(WriteError::Short);
     }
+    let start = Pass {
+        value: 0,
+        from: 0,
+        to: 0,
+    };
+    Ok(pass_whole(image, out, start).to)
 }

@@ -1,113 +1,61 @@
--- Where a function and the header end, field by field, and the counts that the header gives.
+-- Where a function ends, field by field, and the item and the flag that its kind stands for.
+use Rattle.std.specs.Prelude.{Result, Ok, Err}
 use Prim.Native.Nat.{ℕ, zero, suc}
-use native.Mathlib.Omega.{arith}
 use mathlib.Core.Bool.{true, false}
-use mathlib.Core.Path.{◌≡◌, refl, sym, ap, ◌∙◌}
+use mathlib.Core.Path.{◌≡◌, refl, ap, ◌∙◌}
 use mathlib.Core.List.{List, [], ◌∷◌}
 use lib.Dec.{eqb}
 use Rattle.value.specs.Refusal.{unknown}
-use Rattle.image.specs.Parse.{took, ◌<$>◌}
-use Rattle.image.specs.Fields.{such, below, at_most, listed, known, list_of}
-use Rattle.image.specs.Image.{Counts, items, flags_of, most_parameters, versions, var, label, slot, function, header}
+use Rattle.value.specs.declared.refusal.Refusal.{Refusal}
+use Rattle.image.specs.Parse.{took, refused}
+use Rattle.image.specs.Fields.{such, below, listed, known, list_of}
+use Rattle.image.specs.Image.{Counts, items, flags_of, most_parameters, var, label, slot, function}
 use Rattle.image.specs.Program.{Item}
-use Rattle.image.specs.Answer.{shape, after, or_else, walk}
-use Rattle.image.specs.declared.field.Step.{Step}
-use Rattle.image.specs.declared.field.Step.TheVariants.{At}
-use Rattle.image.proofs.Laws.{next, walk-map}
-use Rattle.image.proofs.Shapes.{known-below, known-item, known_only, up_to_value}
+use Rattle.image.specs.Answer.{stop, shape, walk}
+use Rattle.image.specs.declared.number.Stop.{Stop}
+use Rattle.image.proofs.Laws.{then-taken, then-refused, walk-then, walk-map}
+use Rattle.image.proofs.Shapes.{known-below, known-item, known_only}
 use Rattle.loader.specs.Counts.{item_of}
-use Rattle.loader.specs.Tables.{Heads}
-use Rattle.loader.proofs.Turn.{then_took, after-took}
+use Rattle.loader.proofs.Turn.{shape-refused}
 
 -- a kind that is not 1 is a function's
-pub item-function : (kind : ℕ) → (kind ≡ 1 → ⊥) → item_of kind ≡ Item.function
+pub item_function : (kind : ℕ) → (kind ≡ 1 → ⊥) → item_of kind ≡ Item.function
 unfolding item_of
-item-function zero h = refl
-item-function (suc zero) h = absurd (h refl)
-item-function (suc (suc k)) h = refl
+item_function zero h = refl
+item_function (suc zero) h = absurd (h refl)
+item_function (suc (suc k)) h = refl
 
-pub item-constant : (kind : ℕ) → kind ≡ 1 → item_of kind ≡ Item.constant_item
+pub item_constant : (kind : ℕ) → kind ≡ 1 → item_of kind ≡ Item.constant_item
 unfolding item_of
-item-constant kind e = rw e
+item_constant kind e = rw e
 
-module _ (s : List ℕ) (c : Step) (kind : ℕ) where
-  pub flag-function : (kind ≡ 1 → ⊥) → walk (known s (listed (flags_of (item_of kind)))) c ≡ walk (below s 2 unknown) c
-  flag-function h = ap (λ (i : Item). walk (known s (listed (flags_of i))) c) (item-function kind h) ∙ known-below s (false ∷ true ∷ []) c
+module _ (s : List ℕ) (at kind : ℕ) where
+  pub flag_function : (kind ≡ 1 → ⊥) → shape (known s (listed (flags_of (item_of kind))) at) ≡ shape (below s 2 unknown at)
+  flag_function h = ap (λ (i : Item). shape (known s (listed (flags_of i)) at)) (item_function kind h) ∙ known-below s (false ∷ true ∷ []) (Ok at)
 
-  pub flag-constant : kind ≡ 1 → walk (known s (listed (flags_of (item_of kind)))) c ≡ walk (such s (λ v. eqb v 1) unknown) c
-  flag-constant e = ap (λ (i : Item). walk (known s (listed (flags_of i))) c) (item-constant kind e) ∙ known_only s true c
+  pub flag_constant : kind ≡ 1 → shape (known s (listed (flags_of (item_of kind))) at) ≡ shape (such s (λ v. eqb v 1) unknown at)
+  flag_constant e = ap (λ (i : Item). shape (known s (listed (flags_of i)) at)) (item_constant kind e) ∙ known_only s true (Ok at)
 
-module _ (s : List ℕ) (n : Counts) (c : Step) where
+module _ (s : List ℕ) (n : Counts) (at : ℕ) where
   -- a function's fields, where its kind was read as `kind`
-  pub function-walk : (kind : ℕ) → kind ≡ or_else 0 (after c (below s 2 unknown))
-      → walk (function s n) c
+  pub function_walk : {kind m : ℕ} → below s 2 unknown at ≡ took kind m
+      → shape (function s n at)
       ≡ walk (list_of s 16 (slot s n)) (walk (list_of s (most_parameters (item_of kind)) (var s n)) (walk (known s (listed (flags_of (item_of kind))))
-      (walk (var s n) (walk (var s n) (walk (label s n) (walk (below s 2 unknown) c))))))
+      (walk (var s n) (walk (var s n) (shape (label s n m))))))
   unfolding function item_of
-  function-walk kind e =
-      let item = or_else Item.function (after c (known s (listed items))) in
-      let is : item_of kind ≡ item = ap item_of e ∙ sym (known-item s Item.function (Item.constant_item ∷ []) c) in
-      let c₁ = walk (known s (listed items)) c in
-      let c₂ = walk (label s n) c₁ in
-      let c₃ = walk (var s n) c₂ in
-      let c₄ = walk (var s n) c₃ in
-      let c₅ = walk (known s (listed (flags_of item))) c₄ in
-      let c₆ = walk (list_of s (most_parameters item) (var s n)) c₅ in
-      rw (is, ← known-below s (Item.function ∷ Item.constant_item ∷ []) c)
-      (ap shape (next c (known s (listed items)) Item.function _ ∙ next c₁ (label s n) 0 _ ∙ next c₂ (var s n) 0 _ ∙ next c₃ (var s n) 0 _
-      ∙ next c₄ (known s (listed (flags_of item))) false _ ∙ next c₅ (list_of s (most_parameters item) (var s n)) [] _)
-      ∙ walk-map _ (list_of s 16 (slot s n)) c₆)
+  function_walk {kind} {m} read =
+      let slots : Result ℕ Stop → Result ℕ Stop = walk (list_of s 16 (slot s n)) in
+      let parameters : Result ℕ Stop → Result ℕ Stop = λ c. slots (walk (list_of s (most_parameters (item_of kind)) (var s n)) c) in
+      let flag : Result ℕ Stop → Result ℕ Stop = λ c. parameters (walk (known s (listed (flags_of (item_of kind)))) c) in
+      let context : Result ℕ Stop → Result ℕ Stop = λ c. flag (walk (var s n) c) in
+      let returned : Result ℕ Stop → Result ℕ Stop = λ c. context (walk (var s n) c) in
+      ap shape (then-taken (known s (listed items)) _ at (known-item s Item.function (Item.function ∷ Item.constant_item ∷ []) at read))
+      ∙ walk-then (label s n) _ returned (λ e. refl) (λ entry m₁. walk-then (var s n) _ context (λ e. refl) (λ r m₂. walk-then (var s n) _ flag (λ e. refl)
+      (λ c m₃. walk-then (known s (listed (flags_of (item_of kind)))) _ parameters (λ e. refl) (λ f m₄. walk-then (list_of s (most_parameters (item_of kind)) (var s n)) _ slots (λ e. refl)
+      (λ ps m₅. walk-map _ (list_of s 16 (slot s n)) (Ok m₅)) (Ok m₄)) (Ok m₃)) (Ok m₂)) (Ok m₁)) (Ok m)
 
--- ---- the header
-
-same-counts : (n : Counts) {v k f b : ℕ} → n.variables ≡ v → n.constants ≡ k → n.functions ≡ f → n.blocks ≡ b
-    → n ≡ record { variables = v; constants = k; functions = f; blocks = b }
-same-counts n h₁ h₂ h₃ h₄ = rw (← h₁, ← h₂, ← h₃, ← h₄)
-
-module _ (s : List ℕ) where
-  abbrev at₁ : Step
-  at₁ = walk (known s (listed versions)) (At 0)
-
-  abbrev at₂ : Step
-  at₂ = walk (at_most s 256) at₁
-
-  abbrev at₃ : Step
-  at₃ = walk (at_most s 64) at₂
-
-  abbrev at₄ : Step
-  at₄ = walk (at_most s 64) at₃
-
-  abbrev found : ℕ → Counts
-  found b = record { variables = or_else 0 (after at₁ (at_most s 256)); constants = or_else 0 (after at₂ (at_most s 64)); functions = or_else 0 (after at₃ (at_most s 64)); blocks = b }
-
-  in_order : header s 0 ≡ after at₄ (found <$> at_most s 512)
-  unfolding header
-  in_order = next (At 0) (known s (listed versions)) 0 _ ∙ next at₁ (at_most s 256) 0 _ ∙ next at₂ (at_most s 64) 0 _ ∙ next at₃ (at_most s 64) 0 _
-
-  counted : (c : Step) (m : Counts) (e : ℕ) → after c (found <$> at_most s 512) ≡ took m e → found (or_else 0 (after c (at_most s 512))) ≡ m
-  counted c m e h =
-      let (k, is, h₁) = after-took c (found <$> at_most s 512) h in
-      let (b, j, e₁, h₂) = then_took (at_most s 512 k) (λ b j. took (found b) j) h₁ in
-      let same : found b ≡ m = cc in
-      ap found (ap (λ (d : Step). or_else 0 (after d (at_most s 512))) is ∙ ap (or_else 0) e₁) ∙ same
-
-  value : (most : ℕ) {c d : Step} → c ≡ d → or_else 0 (after c (at_most s most)) ≡ or_else 0 (after d (at_most s most))
-  value most e = ap (λ (d : Step). or_else 0 (after d (at_most s most))) e
-
-  -- the header, as the code has its steps and counts
-  pub heads : (c₁ c₂ c₃ c₄ c₅ : Step) (n : Counts) → c₁ ≡ walk (such s (λ v. eqb v 1) unknown) (At 0)
-      → c₂ ≡ walk (at_most s 256) c₁ → c₃ ≡ walk (at_most s 64) c₂ → c₄ ≡ walk (at_most s 64) c₃ → c₅ ≡ walk (at_most s 512) c₄
-      → n.variables ≡ or_else 0 (after c₁ (at_most s 256)) → n.constants ≡ or_else 0 (after c₂ (at_most s 64))
-      → n.functions ≡ or_else 0 (after c₃ (at_most s 64)) → n.blocks ≡ or_else 0 (after c₄ (at_most s 512)) → Heads s c₅ n
-  heads c₁ c₂ c₃ c₄ c₅ n f₁ f₂ f₃ f₄ f₅ g₁ g₂ g₃ g₄ =
-      let h₁ : c₁ ≡ at₁ = f₁ ∙ sym (known_only s 1 (At 0)) in
-      let h₂ : c₂ ≡ at₂ = f₂ ∙ ap (walk (at_most s 256)) h₁ in
-      let h₃ : c₃ ≡ at₃ = f₃ ∙ ap (walk (at_most s 64)) h₂ in
-      let h₄ : c₄ ≡ at₄ = f₄ ∙ ap (walk (at_most s 64)) h₃ in
-      record {
-        ends = f₅ ∙ ap (walk (at_most s 512)) h₄ ∙ sym (ap shape in_order ∙ walk-map found (at_most s 512) at₄);
-        counts = λ m e t. same-counts n (g₁ ∙ value 256 h₁) (g₂ ∙ value 64 h₂) (g₃ ∙ value 64 h₃) (g₄ ∙ value 512 h₄) ∙ counted at₄ m e (sym in_order ∙ t);
-        constants = omega (arith, up_to_value s 64 4 c₂);
-        functions = omega (arith, up_to_value s 64 4 c₃);
-        blocks = omega (arith, up_to_value s 512 4 c₄);
-      }
+  -- a kind that was refused
+  pub function_refused : {k : Refusal} {q : ℕ} → below s 2 unknown at ≡ refused k q → shape (function s n at) ≡ Err (stop k q)
+  unfolding function
+  function_refused read =
+      ap shape (then-refused (known s (listed items)) _ at (shape-refused (known-below s (Item.function ∷ Item.constant_item ∷ []) (Ok at) ∙ ap shape read)))

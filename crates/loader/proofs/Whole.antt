@@ -1,131 +1,184 @@
--- The whole image, item after item, as `load` reads it: what its steps and tables are is what the definition says of the bytes.
-use Prim.Native.Nat.{ℕ, ◌≤◌, ◌<◌}
+-- The header and the whole image, item after item, as `load` reads them: what its answer is is what the definition says of the bytes.
+use Rattle.std.specs.Prelude.{Ok, Err}
+use Prim.Native.Nat.{ℕ, zero, suc, ◌≤◌, ◌<◌}
 use native.Mathlib.Omega.{arith}
 use mathlib.Core.Path.{◌≡◌, refl, sym, ap, ◌∙◌}
-use mathlib.Core.List.{List, [], flatten}
+use mathlib.Core.List.{List, flatten}
 use lib.ListN.{length, replicate}
-use borrow.Author.Tests.{le-leb, lt-leb}
-use Rattle.value.specs.Refusal.{over_limit}
-use Rattle.image.specs.Parse.{Got, took, refused, Field, Placed, many, placed, give, ◌>>=◌}
-use Rattle.image.specs.Fields.{at_end}
-use Rattle.image.specs.Image.{Counts, Image, header, constants, function, blocks, whole, image}
+use lib.Dec.{eqb}
+use borrow.Author.Tests.{le-leb, lt-leb, ne_eqb}
+use Rattle.value.specs.Refusal.{unknown, over_limit}
+use Rattle.value.specs.Answer.{pick}
+use Rattle.image.specs.Parse.{Got, took, refused, Field, Placed, and_then, give, many, placed, ◌>>=◌}
 use Rattle.image.specs.Program.{Function, Instruction}
-use Rattle.image.specs.Answer.{shape, after, or_else, walk}
-use Rattle.image.specs.declared.field.Step.{Step}
-use Rattle.image.specs.declared.field.Step.TheVariants.{At, Stop}
-use Rattle.image.proofs.Laws.{next}
-use Rattle.loader.specs.declared.Counts as Held
-use Rattle.loader.specs.declared.load.Loaded as Code
-use Rattle.loader.specs.Counts.{counts_of}
-use Rattle.loader.specs.Tables.{ats, starts, table, loaded_of, Heads, Fills, FillsBlocks}
-use Rattle.loader.proofs.Turn.{after-took}
+use Rattle.image.specs.Number.{number}
+use Rattle.image.specs.Fields.{such, at_most, listed, known, meant, at_end}
+use Rattle.image.specs.Image.{Counts, Image, versions, header, constants, function, blocks, whole, image}
+use Rattle.image.specs.Answer.{stop, shape}
+use Rattle.image.specs.declared.number.Stop.{Stop}
+use Rattle.image.proofs.Parts.{same-value}
+use Rattle.image.proofs.Shapes.{up_to_value}
+use Rattle.loader.specs.declared.load.Header.{Header}
+use Rattle.loader.specs.declared.load.Blocks.{Blocks}
+use Rattle.loader.specs.declared.load.Loaded.{Loaded}
+use Rattle.loader.specs.Counts.{counts_of, held_counts}
+use Rattle.loader.specs.Tables.{ats, starts, table, tables_of, tables_from, loaded_of, loaded_from, header_of, blocks_read, Fills, FillsBlocks}
+use Rattle.loader.proofs.Turn.{shape-took, shape-refused, then_took}
 use Rattle.loader.proofs.Blocks.{within-length, many-length}
 
--- an over-long image is refused before all else
-pub too_long : (s : List ℕ) → 32768 < length s → image s ≡ refused over_limit 0
-unfolding image
-too_long s h = rw (lt-leb (length s) 32768 h)
+-- ---- the header
 
--- a field and what follows it, from the step that the code has
-next-at : {A B : Type 0} (c c' : Step) (p : Field A) (d : A) (f : A → Field B) → c' ≡ walk p c → after c (p >>= f) ≡ after c' (f (or_else d (after c p)))
-next-at c c' p d f e = rw e (next c p d f)
+abbrev pub counts_after : List ℕ → Field Counts
+counts_after s =
+    at_most s 256 >>= λ variables. at_most s 64 >>= λ constants. at_most s 64 >>= λ functions. at_most s 512 >>= λ blocks.
+    give (record { variables = variables; constants = constants; functions = functions; blocks = blocks })
 
--- a step that goes on was taken
-walk-took : {A : Type 0} (c : Step) (p : Field A) {m : ℕ} → walk p c ≡ At m → (a : A) × (after c p ≡ took a m)
-walk-took {A} c p h = by_got (after c p) h
+-- the version 1, and the counts
+pub header_read : (s : List ℕ) → header s 0 ≡ and_then (such s (λ v. eqb v 1) unknown 0) (λ v. counts_after s)
+unfolding header known such and_then
+header_read s = by_got (number s 0)
   where
-    by_got : (g : Got A) {m : ℕ} → shape g ≡ At m → (a : A) × (g ≡ took a m)
-    by_got (took a k) {m} e = let same : k ≡ m = cc in (a, ap (took a) same)
-    by_got (refused k q) e = let z : ◌≡◌ {A = ℕ} 0 1 = cc in absurd (omega arith)
+    by_got : (g : Got ℕ) → and_then (and_then g (λ v next. meant (listed versions v) 0 next)) (λ v. counts_after s) ≡ and_then (and_then g (λ v next. pick (eqb v 1) (took v next) (refused unknown 0))) (λ v. counts_after s)
+    by_got (took zero n) = refl
+    by_got (took (suc zero) n) = refl
+    by_got (took (suc (suc v)) n) = rw (ne_eqb (suc (suc v)) 1 (λ e. omega arith)) refl
+    by_got (refused k q) = refl
 
--- what follows the header
-abbrev body : List ℕ → Counts → Field Image
-body s n =
-    constants s n >>= λ ks. many n.functions (placed (function s n)) >>= λ fs. blocks s n >>= λ bs. at_end s >>= λ end.
-    give (record { variables = n.variables; constants = ks; functions = fs; blocks = bs })
-
-module _ (s : List ℕ) (n : Counts) (c₀ c₁ c₂ c₃ : Step) (heads : Heads s c₀ n) where
-  abbrev ks : Got (List (Placed (List ℕ)))
-  ks = after c₀ (constants s n)
-
-  abbrev fs : Got (List (Placed Function))
-  fs = after c₁ (many n.functions (placed (function s n)))
-
-  abbrev bs : Got (List (List (Placed Instruction)))
-  bs = after c₂ (blocks s n)
-
-  abbrev found : Image
-  found = record { variables = n.variables; constants = or_else [] ks; functions = or_else [] fs; blocks = or_else [] bs }
-
-  counts-are : or_else n (header s 0) ≡ n
-  counts-are = by_got (header s 0) heads.counts
+module _ (s : List ℕ) where
+  -- the header that the code has was taken, and its refusal is the definition's
+  header-taken : {h : Header} → Ok h ≡ header_of (header s 0) → header s 0 ≡ took (counts_of h.counts) h.end
+  header-taken {h} e = by_got (header s 0) e
     where
-      by_got : (g : Got Counts) → ((m : Counts) (e : ℕ) → g ≡ took m e → n ≡ m) → or_else n g ≡ n
-      by_got (took m e) h = sym (h m e refl)
-      by_got (refused k q) h = refl
+      by_got : (g : Got Counts) → Ok h ≡ header_of g → g ≡ took (counts_of h.counts) h.end
+      by_got (took n m) e = let same : h ≡ record { end = m; counts = held_counts n } = cc in rw same refl
+      by_got (refused k q) e = absurd (let z : ◌≡◌ {A = ℕ} 0 1 = cc in omega arith)
 
-  module _ (e₁ : c₁ ≡ walk (constants s n) c₀) (e₂ : c₂ ≡ walk (many n.functions (placed (function s n))) c₁) (e₃ : c₃ ≡ walk (blocks s n) c₂) where
-    in_order : whole s 0 ≡ after c₃ (at_end s >>= λ u. give found)
-    unfolding whole
-    in_order =
-        next-at (At 0) c₀ (header s) n (body s) heads.ends ∙ ap (λ (m : Counts). after c₀ (body s m)) counts-are
-        ∙ next-at c₀ c₁ (constants s n) [] _ e₁ ∙ next-at c₁ c₂ (many n.functions (placed (function s n))) [] _ e₂ ∙ next-at c₂ c₃ (blocks s n) [] _ e₃
+  header-refused : {e : Stop} → Err e ≡ header_of (header s 0) → header s 0 ≡ refused e.why e.place
+  header-refused {e} h = by_got (header s 0) h
+    where
+      by_got : (g : Got Counts) → Err e ≡ header_of g → g ≡ refused e.why e.place
+      by_got (took n m) h = absurd (let z : ◌≡◌ {A = ℕ} 0 1 = cc in omega arith)
+      by_got (refused k q) h = let same : stop k q ≡ e = cc in ap (λ (e : Stop). refused e.why e.place) same
 
-    module _ (small : length s ≤ 32768) where
-      is_whole : image s ≡ whole s 0
-      unfolding image
-      is_whole = rw (le-leb (length s) 32768 small)
+  -- the counts of a header that was taken are within their limits
+  pub header-limits : {h : Header} → Ok h ≡ header_of (header s 0) → (h.counts.constants ≤ 64) × (h.counts.functions ≤ 64) × (h.counts.blocks ≤ 512)
+  unfolding and_then
+  header-limits {h} e =
+      let (v, m, e₀, h₀) = then_took (such s (λ v. eqb v 1) unknown 0) (λ v. counts_after s) (sym (header_read s) ∙ header-taken e) in
+      let (vs, m₁, e₁, h₁) = then_took (at_most s 256 m) _ h₀ in
+      let (k, m₂, e₂, h₂) = then_took (at_most s 64 m₁) _ h₁ in
+      let (f, m₃, e₃, h₃) = then_took (at_most s 64 m₂) _ h₂ in
+      let (b, m₄, e₄, h₄) = then_took (at_most s 512 m₃) _ h₃ in
+      let same : record { variables = vs; constants = k; functions = f; blocks = b } ≡ counts_of h.counts = same-value h₄ in (
+        omega (arith, up_to_value s 64 over_limit m₁ e₂, ap (λ (n : Counts). n.constants) same),
+        omega (arith, up_to_value s 64 over_limit m₂ e₃, ap (λ (n : Counts). n.functions) same),
+        omega (arith, up_to_value s 512 over_limit m₃ e₄, ap (λ (n : Counts). n.blocks) same),
+      )
 
-      pub stopped : {k q : ℕ} → Stop k q ≡ walk (at_end s) c₃ → image s ≡ refused k q
-      stopped e = is_whole ∙ in_order ∙ next-at c₃ _ (at_end s) tt (λ u. give found) e
+-- ---- the whole image
 
-      pub went : {at : ℕ} → At at ≡ walk (at_end s) c₃ → image s ≡ took found at
-      went e = is_whole ∙ in_order ∙ next-at c₃ _ (at_end s) tt (λ u. give found) e
+-- an over-long image is refused before all else
+pub too_long : (s : List ℕ) → 32768 < length s → Err (stop over_limit 0) ≡ loaded_from s
+unfolding image
+too_long s h = rw (lt-leb (length s) 32768 h) refl
 
-  constants-length : (m : ℕ) {xs : List (Placed (List ℕ))} {e : ℕ} → constants s n m ≡ took xs e → length xs ≡ n.constants
-  unfolding constants
-  constants-length m h = within-length _ _ 8192 n.constants m h
+-- blocks that the code has were taken
+blocks-taken : {g : Got (List (List (Placed Instruction)))} {b : Blocks} → Ok b ≡ blocks_read g → (bs : List (List (Placed Instruction))) × (g ≡ took bs b.end) × (b.total ≡ length (flatten bs))
+blocks-taken {g} {b} e = by_got g e
+  where
+    by_got : (g : Got (List (List (Placed Instruction)))) → Ok b ≡ blocks_read g → (bs : List (List (Placed Instruction))) × (g ≡ took bs b.end) × (b.total ≡ length (flatten bs))
+    by_got (took bs m) e =
+        let same : b ≡ record { end = m; total = length (flatten bs) } = cc in
+        (bs, ap (λ (b : Blocks). took bs b.end) (sym same), ap (λ (b : Blocks). b.total) same)
+    by_got (refused k q) e = absurd (let z : ◌≡◌ {A = ℕ} 0 1 = cc in omega arith)
 
-  blocks-length : (m : ℕ) {xs : List (List (Placed Instruction))} {e : ℕ} → blocks s n m ≡ took xs e → length xs ≡ n.blocks
-  unfolding blocks
-  blocks-length m h = within-length length _ 4096 n.blocks m h
+blocks-refused : {g : Got (List (List (Placed Instruction)))} {e : Stop} → Err e ≡ blocks_read g → g ≡ refused e.why e.place
+blocks-refused {g} {e} h = by_got g h
+  where
+    by_got : (g : Got (List (List (Placed Instruction)))) → Err e ≡ blocks_read g → g ≡ refused e.why e.place
+    by_got (took bs m) h = absurd (let z : ◌≡◌ {A = ℕ} 0 1 = cc in omega arith)
+    by_got (refused k q) h = let same : stop k q ≡ e = cc in ap (λ (e : Stop). refused e.why e.place) same
 
-same-image : (v : ℕ) {k k' : List (Placed (List ℕ))} {f f' : List (Placed Function)} {b b' : List (List (Placed Instruction))} → k' ≡ k → f' ≡ f → b' ≡ b
-    → ◌≡◌ {A = Image} (record { variables = v; constants = k; functions = f; blocks = b }) (record { variables = v; constants = k'; functions = f'; blocks = b' })
-same-image v h₁ h₂ h₃ = rw (h₁, h₂, h₃)
+same-loaded : (end v k f b total k' f' b' total' : ℕ) (P L F K P' L' F' K' : List ℕ) → k ≡ k' → f ≡ f' → b ≡ b' → total ≡ total' → P ≡ P' → L ≡ L' → F ≡ F' → K ≡ K'
+    → ◌≡◌ {A = Loaded}
+    (record { end = end; counts = record { variables = v; constants = k; functions = f; blocks = b }; instructions = total; places = P; labels = L; functions = F; constants = K })
+    (record { end = end; counts = record { variables = v; constants = k'; functions = f'; blocks = b' }; instructions = total'; places = P'; labels = L'; functions = F'; constants = K' })
+same-loaded end v k f b total k' f' b' total' P L F K P' L' F' K' h₁ h₂ h₃ h₄ h₅ h₆ h₇ h₈ = rw (h₁, h₂, h₃, h₄, h₅, h₆, h₇, h₈)
 
-same-loaded : (at v k f b total k' f' b' total' : ℕ) (P L F K P' L' F' K' : List ℕ) → k ≡ k' → f ≡ f' → b ≡ b' → total ≡ total' → P ≡ P' → L ≡ L' → F ≡ F' → K ≡ K'
-    → ◌≡◌ {A = Code.Loaded}
-    (record { end = At at; counts = record { variables = v; constants = k; functions = f; blocks = b }; instructions = total; places = P; labels = L; functions = F; constants = K })
-    (record { end = At at; counts = record { variables = v; constants = k'; functions = f'; blocks = b' }; instructions = total'; places = P'; labels = L'; functions = F'; constants = K' })
-same-loaded at v k f b total k' f' b' total' P L F K P' L' F' K' h₁ h₂ h₃ h₄ h₅ h₆ h₇ h₈ = rw (h₁, h₂, h₃, h₄, h₅, h₆, h₇, h₈)
+-- an image that is not over-long: each of its parts, as the code has read it
+module _ (s : List ℕ) (small : length s ≤ 32768) where
+  is_whole : image s ≡ whole s 0
+  unfolding image
+  is_whole = rw (le-leb (length s) 32768 small)
 
--- an image that was taken, with the counts and tables that the code has
-module _ (s : List ℕ) (n : Held.Counts) (c₀ c₁ c₂ c₃ : Step) (total : ℕ) (K F L P : List ℕ) (small : length s ≤ 32768) (heads : Heads s c₀ (counts_of n))
-    (hk : Fills (constants s (counts_of n)) c₀ 0 (replicate 64 0) c₁ K)
-    (hf : Fills (many n.functions (placed (function s (counts_of n)))) c₁ 0 (replicate 64 0) c₂ F)
-    (hb : FillsBlocks (blocks s (counts_of n)) c₂ (replicate 512 0) (replicate 4096 0) c₃ total L P) where
-  pub loads_stopped : {k q : ℕ} → Stop k q ≡ walk (at_end s) c₃ → loaded_of (refused k q) ≡ loaded_of (image s)
-  loads_stopped e = ap loaded_of (sym (stopped s (counts_of n) c₀ c₁ c₂ c₃ heads hk.ends hf.ends hb.ends small e))
+  taken : {n : Counts} {ks : List (Placed (List ℕ))} {fs : List (Placed Function)} {bs : List (List (Placed Instruction))} {u : Unit} {m₀ m₁ m₂ m₃ end : ℕ}
+      → header s 0 ≡ took n m₀ → constants s n m₀ ≡ took ks m₁ → many n.functions (placed (function s n)) m₁ ≡ took fs m₂ → blocks s n m₂ ≡ took bs m₃ → at_end s m₃ ≡ took u end
+      → image s ≡ took (record { variables = n.variables; constants = ks; functions = fs; blocks = bs }) end
+  unfolding whole and_then
+  taken e₀ e₁ e₂ e₃ e₄ = rw (is_whole, e₀, e₁, e₂, e₃, e₄) refl
 
-  pub loads_taken : {at : ℕ} → At at ≡ walk (at_end s) c₃
-      → record { end = At at; counts = n; instructions = total; places = P; labels = L; functions = F; constants = K } ≡ loaded_of (image s)
-  unfolding loaded_of
-  loads_taken {at} e =
-      let N = counts_of n in
-      let (u, e₄) = walk-took c₃ (at_end s) (sym e) in
-      let (m₃, is₃, x₃) = after-took c₃ (at_end s) e₄ in
-      let (b, e₃) = walk-took c₂ (blocks s N) (sym hb.ends ∙ is₃) in
-      let (m₂, is₂, x₂) = after-took c₂ (blocks s N) e₃ in
-      let (f, e₂) = walk-took c₁ (many n.functions (placed (function s N))) (sym hf.ends ∙ is₂) in
-      let (m₁, is₁, x₁) = after-took c₁ (many n.functions (placed (function s N))) e₂ in
-      let (k, e₁) = walk-took c₀ (constants s N) (sym hk.ends ∙ is₁) in
-      let (m₀, is₀, x₀) = after-took c₀ (constants s N) e₁ in
-      let bs_are : or_else [] (after c₂ (blocks s N)) ≡ b = ap (or_else []) e₃ in
-      let fs_are : or_else [] (after c₁ (many n.functions (placed (function s N)))) ≡ f = ap (or_else []) e₂ in
-      let ks_are : or_else [] (after c₀ (constants s N)) ≡ k = ap (or_else []) e₁ in
-      same-loaded at n.variables n.constants n.functions n.blocks total (length k) (length f) (length b) (length (flatten b))
-      P L F K (table 4096 (ats (flatten b))) (table 512 (starts 0 b)) (table 64 (ats f)) (table 64 (ats k))
-      (sym (constants-length s N c₀ c₁ c₂ c₃ heads m₀ x₀)) (sym (many-length (placed (function s N)) n.functions m₁ x₁)) (sym (blocks-length s N c₀ c₁ c₂ c₃ heads m₂ x₂))
-      (hb.counting b m₃ e₃) (hb.placing b m₃ e₃) (hb.starting b m₃ e₃) (hf.places f m₂ e₂) (hk.places k m₁ e₁)
-      ∙ ap loaded_of (ap (λ (i : Image). took i at) (same-image n.variables ks_are fs_are bs_are) ∙ sym (went s N c₀ c₁ c₂ c₃ heads hk.ends hf.ends hb.ends small e))
+  pub header-stops : {e : Stop} → Err e ≡ header_of (header s 0) → Err e ≡ loaded_from s
+  unfolding whole and_then
+  header-stops h = rw (is_whole, header-refused s h) refl
+
+  module _ {h : Header} (read : Ok h ≡ header_of (header s 0)) where
+    abbrev n : Counts
+    n = counts_of h.counts
+
+    pub constants-stop : {e : Stop} → Err e ≡ shape (constants s n h.end) → Err e ≡ loaded_from s
+    unfolding whole and_then
+    constants-stop r = rw (is_whole, header-taken s read, shape-refused (sym r)) refl
+
+    module _ {m₁ : ℕ} {K : List ℕ} (hk : Fills (constants s n) h.end 0 (replicate 64 0) (Ok m₁) K) where
+      pub functions-stop : {e : Stop} → Err e ≡ shape (many n.functions (placed (function s n)) m₁) → Err e ≡ loaded_from s
+      unfolding whole and_then
+      functions-stop r =
+          let (ks, e₁) = shape-took (sym hk.ends) in
+          rw (is_whole, header-taken s read, e₁, shape-refused (sym r)) refl
+
+      module _ {m₂ : ℕ} {F : List ℕ} (hf : Fills (many n.functions (placed (function s n))) m₁ 0 (replicate 64 0) (Ok m₂) F) where
+        pub blocks-stop : {e : Stop} → Err e ≡ blocks_read (blocks s n m₂) → Err e ≡ loaded_from s
+        unfolding whole and_then
+        blocks-stop r =
+            let (ks, e₁) = shape-took (sym hk.ends) in
+            let (fs, e₂) = shape-took (sym hf.ends) in
+            rw (is_whole, header-taken s read, e₁, e₂, blocks-refused r) refl
+
+        module _ {b : Blocks} {L P : List ℕ} (hb : FillsBlocks (blocks s n) m₂ (replicate 512 0) (replicate 4096 0) (Ok b) L P) where
+          pub end-stops : {e : Stop} → Err e ≡ shape (at_end s b.end) → Err e ≡ loaded_from s
+          unfolding whole and_then
+          end-stops r =
+              let (ks, e₁) = shape-took (sym hk.ends) in
+              let (fs, e₂) = shape-took (sym hf.ends) in
+              let (bs, e₃, total) = blocks-taken hb.answer in
+              rw (is_whole, header-taken s read, e₁, e₂, e₃, shape-refused (sym r)) refl
+
+          pub loads : {end : ℕ} → Ok end ≡ shape (at_end s b.end)
+              → Ok (record { end = end; counts = h.counts; instructions = b.total; places = P; labels = L; functions = F; constants = K }) ≡ loaded_from s
+          unfolding constants blocks tables_of
+          loads {end} r =
+              let (ks, e₁) = shape-took (sym hk.ends) in
+              let (fs, e₂) = shape-took (sym hf.ends) in
+              let (bs, e₃, total) = blocks-taken hb.answer in
+              let (u, e₄) = shape-took (sym r) in
+              let is : image s ≡ took (record { variables = n.variables; constants = ks; functions = fs; blocks = bs }) end = taken (header-taken s read) e₁ e₂ e₃ e₄ in
+              ap Ok (same-loaded end n.variables n.constants n.functions n.blocks b.total (length ks) (length fs) (length bs) (length (flatten bs))
+              P L F K (table 4096 (ats (flatten bs))) (table 512 (starts 0 bs)) (table 64 (ats fs)) (table 64 (ats ks))
+              (sym (within-length _ _ 8192 n.constants h.end e₁)) (sym (many-length (placed (function s n)) n.functions m₁ e₂)) (sym (within-length length _ 4096 n.blocks m₂ e₃))
+              total (hb.placing bs b.end e₃) (hb.starting bs b.end e₃) (hf.places fs m₂ e₂) (hk.places ks m₁ e₁)) ∙ ap loaded_of (sym is)
+
+-- what loading took, and what it refused
+pub loaded-took : (s : List ℕ) {l : Loaded} → loaded_from s ≡ Ok l → (i : Image) × (image s ≡ took i l.end) × (tables_from s ≡ l)
+unfolding tables_of
+loaded-took s {l} h = by_got (image s) h
+  where
+    by_got : (g : Got Image) → loaded_of g ≡ Ok l → (i : Image) × (g ≡ took i l.end) × (tables_of g ≡ l)
+    by_got (took i m) e = let same : tables_of (took i m) ≡ l = cc in (i, ap (λ (l : Loaded). took i l.end) same, same)
+    by_got (refused k q) e = absurd (let z : ◌≡◌ {A = ℕ} 0 1 = cc in omega arith)
+
+pub loaded-refused : (s : List ℕ) {e : Stop} → loaded_from s ≡ Err e → image s ≡ refused e.why e.place
+loaded-refused s {e} h = by_got (image s) h
+  where
+    by_got : (g : Got Image) → loaded_of g ≡ Err e → g ≡ refused e.why e.place
+    by_got (took i m) h = absurd (let z : ◌≡◌ {A = ℕ} 0 1 = cc in omega arith)
+    by_got (refused k q) h = let same : stop k q ≡ e = cc in ap (λ (e : Stop). refused e.why e.place) same

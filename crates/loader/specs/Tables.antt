@@ -1,14 +1,16 @@
 -- What the loader leaves in its tables: the places of what was read.
-use Rattle.std.specs.Prelude.{ℕ, ◌+◌, ◌≤◌, ◌≡◌, length, replicate}
+use Rattle.std.specs.Prelude.{ℕ, ◌+◌, ◌≡◌, length, replicate, Result, Ok, Err}
 use mathlib.Core.List.{List, [], ◌∷◌, map, flatten}
 use Rattle.std.proofs.lemmas.List.Edits.{sets}
 use Rattle.image.specs.Parse.{Got, took, refused, Field, Placed}
 use Rattle.image.specs.Program.{Instruction}
-use Rattle.image.specs.Image.{Counts, Image, header, image}
-use Rattle.image.specs.Answer.{walk, after}
-use Rattle.image.specs.declared.field.Step.{Step}
-use Rattle.image.specs.declared.field.Step.TheVariants.{At, Stop}
+use Rattle.image.specs.Image.{Counts, Image, image}
+use Rattle.image.specs.Answer.{stop, shape}
+use Rattle.image.specs.declared.number.Stop.{Stop}
+use Rattle.loader.specs.declared.load.Header as Held
+use Rattle.loader.specs.declared.load.Blocks as Parts
 use Rattle.loader.specs.declared.load.Loaded as Code
+use Rattle.loader.specs.Counts.{held_counts}
 
 -- where each item starts
 abbrev pub ats : {A : Type 0} → List (Placed A) → List ℕ
@@ -19,14 +21,21 @@ abbrev pub starts : {A : Type 0} → (total : ℕ) → List (List A) → List �
 starts total [] = []
 starts total (b ∷ bs) = total ∷ starts (total + length b) bs
 
+-- ---- the header
+
+-- the header's counts and its end, or why and where it is refused
+abbrev pub header_of : Got Counts → Result Held.Header Stop
+header_of (took n end) = Ok (record { end = end; counts = held_counts n })
+header_of (refused why place) = Err (stop why place)
+
 -- ---- of an image that was taken, the places from the tables' start on; of one that was refused nothing
 
 abbrev pub table : (size : ℕ) → List ℕ → List ℕ
 table size xs = sets (replicate size 0) 0 xs
 
-unfoldable pub loaded_of : Got Image → Code.Loaded
-loaded_of (took i end) = record {
-  end = At end;
+unfoldable pub tables_of : Got Image → Code.Loaded
+tables_of (took i end) = record {
+  end = end;
   counts = record { variables = i.variables; constants = length i.constants; functions = length i.functions; blocks = length i.blocks };
   instructions = length (flatten i.blocks);
   places = table 4096 (ats (flatten i.blocks));
@@ -34,8 +43,8 @@ loaded_of (took i end) = record {
   functions = table 64 (ats i.functions);
   constants = table 64 (ats i.constants);
 }
-loaded_of (refused number place) = record {
-  end = Stop number place;
+tables_of (refused why place) = record {
+  end = 0;
   counts = record { variables = 0; constants = 0; functions = 0; blocks = 0 };
   instructions = 0;
   places = replicate 4096 0;
@@ -44,26 +53,30 @@ loaded_of (refused number place) = record {
   constants = replicate 64 0;
 }
 
-abbrev pub loaded_from : List ℕ → Code.Loaded
+abbrev pub tables_from : List ℕ → Code.Loaded
+tables_from s = tables_of (image s)
+
+-- what loading answers: the tables, or why and where the image is refused
+abbrev pub loaded_of : Got Image → Result Code.Loaded Stop
+loaded_of (took i end) = Ok (tables_of (took i end))
+loaded_of (refused why place) = Err (stop why place)
+
+abbrev pub loaded_from : List ℕ → Result Code.Loaded Stop
 loaded_from s = loaded_of (image s)
 
 -- ---- one list of items, and the blocks, read with their tables: only the private functions speak of these
 
--- the step after the header, and its counts where it was taken
-pub record Heads (s : List ℕ) (end : Step) (n : Counts) : Type 0 where
-  pub ends : end ≡ walk (header s) (At 0)
-  pub counts : (m : Counts) (e : ℕ) → header s 0 ≡ took m e → n ≡ m
-  pub constants : n.constants ≤ 64
-  pub functions : n.functions ≤ 64
-  pub blocks : n.blocks ≤ 512
-
-pub record Fills {A : Type 0} (p : Field (List (Placed A))) (c : Step) (base : ℕ) (before : List ℕ) (end : Step) (table : List ℕ) : Type 0 where
-  pub ends : end ≡ walk p c
-  pub places : (xs : List (Placed A)) (e : ℕ) → after c p ≡ took xs e → table ≡ sets before base (ats xs)
+pub record Fills {A : Type 0} (p : Field (List (Placed A))) (start base : ℕ) (before : List ℕ) (end : Result ℕ Stop) (table : List ℕ) : Type 0 where
+  pub ends : end ≡ shape (p start)
+  pub places : (xs : List (Placed A)) (e : ℕ) → p start ≡ took xs e → table ≡ sets before base (ats xs)
   pub room : length table ≡ length before
 
-pub record FillsBlocks (p : Field (List (List (Placed Instruction)))) (c : Step) (labels₀ places₀ : List ℕ) (end : Step) (total : ℕ) (labels places : List ℕ) : Type 0 where
-  pub ends : end ≡ walk p c
-  pub starting : (bs : List (List (Placed Instruction))) (e : ℕ) → after c p ≡ took bs e → labels ≡ sets labels₀ 0 (starts 0 bs)
-  pub placing : (bs : List (List (Placed Instruction))) (e : ℕ) → after c p ≡ took bs e → places ≡ sets places₀ 0 (ats (flatten bs))
-  pub counting : (bs : List (List (Placed Instruction))) (e : ℕ) → after c p ≡ took bs e → total ≡ length (flatten bs)
+-- the blocks' end and how many instructions they have, or why and where they are refused
+abbrev pub blocks_read : Got (List (List (Placed Instruction))) → Result Parts.Blocks Stop
+blocks_read (took bs end) = Ok (record { end = end; total = length (flatten bs) })
+blocks_read (refused why place) = Err (stop why place)
+
+pub record FillsBlocks (p : Field (List (List (Placed Instruction)))) (start : ℕ) (labels₀ places₀ : List ℕ) (r : Result Parts.Blocks Stop) (labels places : List ℕ) : Type 0 where
+  pub answer : r ≡ blocks_read (p start)
+  pub starting : (bs : List (List (Placed Instruction))) (e : ℕ) → p start ≡ took bs e → labels ≡ sets labels₀ 0 (starts 0 bs)
+  pub placing : (bs : List (List (Placed Instruction))) (e : ℕ) → p start ≡ took bs e → places ≡ sets places₀ 0 (ats (flatten bs))

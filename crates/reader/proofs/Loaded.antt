@@ -1,23 +1,27 @@
 -- The reader's header is the first part of loading: where it is refused, loading refuses with the same number and place; where loading takes the image, its counts are the reader's. By the order of the grammar.
+use Rattle.std.specs.Prelude.{Ok, Err}
 use Prim.Native.Nat.{ℕ}
 use native.Mathlib.Omega.{arith}
 use mathlib.Core.Bool.{Bool, true, false}
 use mathlib.Core.List.{List}
-use mathlib.Core.Path.{◌≡◌, refl, ap, ◌∙◌}
+use mathlib.Core.Path.{◌≡◌, refl, sym, ap, ◌∙◌}
 use lib.ListN.{length}
 use lib.Dec.{leb}
+use Rattle.value.specs.declared.refusal.Refusal.{Refusal}
 use Rattle.value.specs.Answer.{pick}
 use Rattle.value.specs.Refusal.{over_limit}
 use Rattle.image.specs.Parse.{Got, took, refused, and_then, many, placed}
 use Rattle.image.specs.Fields.{at_end}
 use Rattle.image.specs.Image.{Counts, Image, header, constants, function, blocks, whole, image}
-use Rattle.image.specs.declared.field.Step.TheVariants.{At, Stop}
+use Rattle.image.specs.Answer.{stop}
+use Rattle.image.specs.declared.number.Stop.{Stop}
 use Rattle.image.proofs.Parts.{same-value}
-use Rattle.loader.specs.Tables.{loaded_of, loaded_from}
+use Rattle.loader.specs.declared.load.Loaded.{Loaded}
+use Rattle.loader.specs.Tables.{tables_of, loaded_of, loaded_from}
+use Rattle.loader.proofs.Whole.{loaded-took}
 use Rattle.loader.proofs.Turn.{never, then_took}
 use Rattle.loader.proofs.Blocks.{within-length, many-length}
 use Rattle.reader.specs.Header.{headed, answered}
-use Rattle.reader.specs.declared.Headed.TheVariants.{Taken, Refused}
 
 -- counts that are the lengths of the lists
 same-counts : (n : Counts) {k f b : ℕ} → k ≡ n.constants → f ≡ n.functions → b ≡ n.blocks → n ≡ record { variables = n.variables; constants = k; functions = f; blocks = b }
@@ -41,11 +45,11 @@ module _ (s : List ℕ) where
       (m, e₀ ∙ ap (λ (k : Counts). took k m) (counts ∙ ap counts_in (same-value h₄)))
 
   -- a header that is refused
-  whole-refused : (k p : ℕ) → header s 0 ≡ refused k p → whole s 0 ≡ refused k p
+  whole-refused : (k : Refusal) (p : ℕ) → header s 0 ≡ refused k p → whole s 0 ≡ refused k p
   unfolding whole and_then
   whole-refused k p h = rw h refl
 
-  pub refused_alike : (k p : ℕ) → headed s ≡ refused k p → image s ≡ refused k p
+  pub refused_alike : (k : Refusal) (p : ℕ) → headed s ≡ refused k p → image s ≡ refused k p
   unfolding headed image
   refused_alike k p = by_test (leb (length s) 32768)
     where
@@ -62,18 +66,17 @@ module _ (s : List ℕ) where
       by_test false h = never h
 
 -- in the words of the two answers: what `read_header` refuses, `load` refuses with the same number and place, and of an image that `load` takes the counts are `read_header`'s
-pub load_refuses_alike : (s : List ℕ) (k p : ℕ) → answered (headed s) ≡ Refused k p → (loaded_from s).end ≡ Stop k p
-unfolding answered loaded_of
-load_refuses_alike s k p = by_got (headed s) refl
+pub load_refuses_alike : (s : List ℕ) (e : Stop) → answered (headed s) ≡ Err e → loaded_from s ≡ Err e
+load_refuses_alike s e = by_got (headed s) refl
   where
-    by_got : (g : Got Counts) → headed s ≡ g → answered g ≡ Refused k p → (loaded_from s).end ≡ Stop k p
-    by_got (took n m) h e = absurd (let z : ◌≡◌ {A = ℕ} 0 1 = cc in omega arith)
-    by_got (refused k' p') h e = ap (λ (g : Got Image). (loaded_of g).end) (refused_alike s k' p' h) ∙ cc
+    by_got : (g : Got Counts) → headed s ≡ g → answered g ≡ Err e → loaded_from s ≡ Err e
+    by_got (took n m) h r = absurd (let z : ◌≡◌ {A = ℕ} 0 1 = cc in omega arith)
+    by_got (refused k q) h r = let same : stop k q ≡ e = cc in ap loaded_of (refused_alike s k q h) ∙ ap Err same
 
-pub load_counts_alike : (s : List ℕ) (e : ℕ) → (loaded_from s).end ≡ At e → (m : ℕ) × (answered (headed s) ≡ Taken 1 (loaded_from s).counts m)
-unfolding answered loaded_of
-load_counts_alike s e = by_got (image s) refl
-  where
-    by_got : (g : Got Image) → image s ≡ g → (loaded_of g).end ≡ At e → (m : ℕ) × (answered (headed s) ≡ Taken 1 (loaded_of g).counts m)
-    by_got (took i e') h t = let (m, is) = counted_alike s i e' h in (m, ap answered is)
-    by_got (refused k p) h t = absurd (let z : ◌≡◌ {A = ℕ} 0 1 = cc in omega arith)
+pub load_counts_alike : (s : List ℕ) (l : Loaded) → loaded_from s ≡ Ok l → (m : ℕ) × (answered (headed s) ≡ Ok (record { version = 1; counts = l.counts; end = m }))
+unfolding tables_of
+load_counts_alike s l h =
+    let (i, is, tables) = loaded-took s h in
+    let (m, read) = counted_alike s i l.end is in
+    let same : tables_of (took i l.end) ≡ l = ap tables_of (sym is) ∙ tables in
+    (m, ap answered read ∙ ap (λ (l : Loaded). Ok (record { version = 1; counts = l.counts; end = m })) same)

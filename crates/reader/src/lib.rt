@@ -1,38 +1,23 @@
-// A reader that holds the image and its place, for the tools. Its functions take it apart and leave the work to the readers of crate
-// `image`; `read_header` has plain parameters, so whoever calls it needs no reader.
+// A reader that holds the image and its place, for the tools, and an image's header, read by it. The work is left to the readers of
+// crate `image`.
 #![tactic(auto)]
 
-ghost use Rattle.std.specs.Prelude.{◌≡◌, leb};
-ghost use Rattle.value.specs.Refusal.{over_limit};
+ghost use Rattle.std.specs.Prelude.{◌≡◌, IfErr, eqb};
+ghost use Rattle.value.specs.Refusal.{unknown, over_limit};
 ghost use Rattle.image.specs.Number.{number};
-ghost use Rattle.image.specs.Fields.{tested, raw};
-ghost use Rattle.image.specs.Answer.{got, shape, after, or_else, walk, place_of};
-ghost use Rattle.image.specs.declared.field.Step.TheVariants.{At};
-ghost use Rattle.reader.specs.Header.{begun, headed, answered, answer_of, Judges};
+ghost use Rattle.image.specs.Fields.{raw, such, up_to};
+ghost use Rattle.image.specs.Answer.{shape};
+ghost use Rattle.reader.specs.Header.{read_to, headed, answered};
 
-use image::field::{Step, past, place, raw_after, value};
-use image::number::{Number, read_number};
+use image::field::{only_after, raw_after, up_to_after};
+use image::number::{Stop, read_number};
 use loader::Counts;
-use value::refusal::{OVER_LIMIT, UNKNOWN};
+use value::refusal::Refusal;
 
 #[derive(Clone, Copy)]
 pub struct Reader<'a> {
     pub image: &'a [u8],
     pub place: usize,
-}
-
-// The place after a number, or that of its refusal.
-fn end_of(n: Number) -> usize
-    ensures { result ≡ place_of (shape (got n)) }
-{
-    place(past(n))
-}
-
-// `count` raw bytes at a place.
-fn raw_at(image: &[u8], at: usize, count: usize) -> Step
-    ensures { result ≡ walk (raw image.now count) (At at) }
-{
-    raw_after(image, Step::At(at), count)
 }
 
 impl<'a> Reader<'a> {
@@ -44,122 +29,85 @@ impl<'a> Reader<'a> {
     }
 
     // The number at the reader's place. The reader then stands after it, or where it is refused.
-    pub fn number<'s>(&'s mut self) -> Number
-        ensures { (got result ≡ number self.old.image.now self.old.place)
-            × (self.new.image ≡ self.old.image) × (self.new.place ≡ place_of (shape (got result))) }
+    #[tactic(auto, using(image::proofs::Groups::number_refused_here))]
+    pub fn number<'s>(&'s mut self) -> Result<u64, Stop>
+        ensures read { read_to result self.new.place ≡ number self.old.image.now self.old.place }
+        ensures refused { IfErr result (λ e. self.new.place ≡ e.place) }
+        ensures image { self.new.image ≡ self.old.image }
     {
-        let n = read_number(self.image, self.place);
-        self.place = end_of(n);
-        n
+        let (value, next) = read_number(self.image, self.place)?;
+        self.place = next;
+        Ok(value)
     }
 
     // Past `count` raw bytes, or refused where the reader stands.
-    pub fn skip<'s>(&'s mut self, count: usize) -> Step
-        ensures { (result ≡ walk (raw self.old.image.now count) (At self.old.place))
-            × (self.new.image ≡ self.old.image) × (self.new.place ≡ place_of result) }
+    #[tactic(auto, using(image::proofs::Shapes::raw_refused_here))]
+    pub fn skip<'s>(&'s mut self, count: usize) -> Result<(), Stop>
+        ensures passed { shape (read_to result self.new.place) ≡ shape (raw self.old.image.now count self.old.place) }
+        ensures refused { IfErr result (λ e. self.new.place ≡ e.place) }
+        ensures image { self.new.image ≡ self.old.image }
     {
-        let c = raw_at(self.image, self.place, count);
-        self.place = place(c);
-        c
+        self.place = raw_after(self.image, self.place, count)?;
+        Ok(())
+    }
+
+    // The number `only` and no other.
+    fn only<'s>(&'s mut self, only: u64) -> Result<u64, Stop>
+        ensures read { read_to result self.new.place ≡ such self.old.image.now (λ v. eqb v only) unknown self.old.place }
+        ensures refused { IfErr result (λ e. self.new.place ≡ self.old.place) }
+        ensures image { self.new.image ≡ self.old.image }
+    {
+        let (value, next) = only_after(self.image, self.place, only)?;
+        self.place = next;
+        Ok(value)
+    }
+
+    // A count of at most `most`.
+    fn up_to<'s>(&'s mut self, most: u64) -> Result<u64, Stop>
+        ensures read { read_to result self.new.place ≡ up_to self.old.image.now most over_limit self.old.place }
+        ensures refused { IfErr result (λ e. self.new.place ≡ self.old.place) }
+        ensures image { self.new.image ≡ self.old.image }
+    {
+        let (value, next) = up_to_after(self.image, self.place, most, Refusal::OverLimit)?;
+        self.place = next;
+        Ok(value)
     }
 }
 
-// The version, its counts and the place after the header, or the first refusal's number and place.
-#[derive(Clone, Copy)]
-pub enum Headed {
-    Taken(u64, Counts, usize),
-    Refused(u64, usize),
+// A header that is taken: its version, its counts and the place after it.
+#[derive(Clone, Copy, Debug, PartialEq, Eq)]
+pub struct Headed {
+    pub version: u64,
+    pub counts: Counts,
+    pub end: usize,
 }
 
-// The place after the version, which stands at the start of an image that is not over-long.
-fn begin(length: usize, version: Number) -> Step
-    ensures { result ≡ shape (begun length (got version)) }
-{
-    if 32768 < length {
-        return Step::Stop(OVER_LIMIT, 0);
-    }
-    match version {
-        Number::Value(v, next) => {
-            if v == 1 {
-                Step::At(next)
-            } else {
-                Step::Stop(UNKNOWN, 0)
-            }
-        }
-        Number::Bad(k, p) => Step::Stop(k, p),
-    }
-}
-
-// A count that was read at c, held to its limit.
-fn limited(c: Step, n: Number, most: u64) -> Number
-    ensures { got result ≡ after c (λ at. tested (λ v. leb v most) over_limit at (got n)) }
-{
-    match c {
-        Step::At(at) => match n {
-            Number::Value(v, next) => {
-                if v <= most {
-                    Number::Value(v, next)
-                } else {
-                    Number::Bad(OVER_LIMIT, at)
-                }
-            }
-            Number::Bad(k, p) => Number::Bad(k, p),
-        },
-        Step::Stop(k, p) => Number::Bad(k, p),
-    }
-}
-
-// The answer of a header that ends at a step.
-fn answer(version: Number, counts: Counts, end: Step) -> Headed
-    ensures { result ≡ answer_of (or_else 0 (got version)) counts end }
-{
-    match end {
-        Step::At(at) => Headed::Taken(value(version), counts, at),
-        Step::Stop(k, p) => Headed::Refused(k, p),
-    }
-}
-
-// The header of an image of this length whose first five numbers, one after another, are these.
-fn judge(
-    length: usize,
-    version: Number,
-    variables: Number,
-    constants: Number,
-    functions: Number,
-    blocks: Number,
-) -> Headed
-    ensures { Judges length (got version) (got variables) (got constants) (got functions) (got blocks) result }
-{
-    let start = begin(length, version);
-    let a = limited(start, variables, 256);
-    let b = limited(past(a), constants, 64);
-    let c = limited(past(b), functions, 64);
-    let d = limited(past(c), blocks, 512);
-    let counts = Counts {
-        variables: value(a),
-        constants: value(b),
-        functions: value(c),
-        blocks: value(d),
-    };
-    answer(version, counts, past(d))
-}
-
-// Any bytes: the header's counts, or the first refusal's number and place.
-pub fn read_header(image: &[u8]) -> Headed
+// Any bytes: the header, or the first refusal and its place.
+#[tactic(auto, using(std::proofs::lemmas::Bool::Decides::nat_tests), unfolding(crate::specs::Header::headed))]
+pub fn read_header(image: &[u8]) -> Result<Headed, Stop>
     ensures { result ≡ answered (headed image.now) }
 {
-    let mut r = Reader::new(image);
-    let version = r.number();
-    let variables = r.number();
-    let constants = r.number();
-    let functions = r.number();
-    let blocks = r.number();
-    judge(
-        image.len(),
-        version,
+    if 32768 < image.len() {
+        return Err(Stop {
+            why: Refusal::OverLimit,
+            place: 0,
+        });
+    }
+    let mut reader = Reader::new(image);
+    let version = reader.only(1)?;
+    let variables = reader.up_to(256)?;
+    let constants = reader.up_to(64)?;
+    let functions = reader.up_to(64)?;
+    let blocks = reader.up_to(512)?;
+    let counts = Counts {
         variables,
         constants,
         functions,
         blocks,
-    )
+    };
+    Ok(Headed {
+        version,
+        counts,
+        end: reader.place,
+    })
 }

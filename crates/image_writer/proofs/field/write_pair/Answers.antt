@@ -8,9 +8,9 @@ use Rattle.image_writer.proofs.field.write_pair.Goals as goal
 pub overflow_add-n : goal.overflow_add-n
 overflow_add-n c = omega (arith, number-length c.args.first, number-length c.args.second)
 
-pub returns-in-To : goal.returns-in-To
-returns-in-To c =
+pub returns : goal.returns
+returns c =
     let a = c.args in
     let w = c.write_number in
     both (bytes_of a.first) (bytes_of a.second) a.start a.out.now (omega (arith, length-append (bytes_of a.first) (bytes_of a.second)))
-    w.result _ _ _ _ w.ensures c.in-To.is c.write_number-in-To.ensures
+    w.result _ _ _ _ w.ensures c.in_ok-at.was c.write_number-2.ensures

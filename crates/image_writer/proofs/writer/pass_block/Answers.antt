@@ -1,7 +1,7 @@
--- `pass_block` meets its contract: a number, and what it announces.
+-- `pass_block` meets its contract: each call of its closure passes one part.
+use Rattle.std.proofs.Common.{rules}
 use Rattle.image_writer.specs.Past.{past_instruction}
-use Rattle.image_writer.proofs.Keeps.{list_passed}
 use Rattle.image_writer.proofs.writer.pass_block.Goals as goal
 
 pub returns : goal.returns
-returns c = list_passed (past_instruction c.args.image.now) c.pass_number-count.ensures.passed c.pass_number-count.ensures.number c.pass_instructions.ensures
+returns c = c.pass_list.ensures (past_instruction c.args.image.now) (λ out d r after h. search rules)

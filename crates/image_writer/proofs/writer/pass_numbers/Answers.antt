@@ -1,14 +1,7 @@
--- `pass_numbers` meets its contract: after i turns so many items are passed.
-use native.Mathlib.Omega.{arith}
-use mathlib.Core.Path.{refl}
+-- `pass_numbers` meets its contract: each call of its closure passes one part.
+use Rattle.std.proofs.Common.{rules}
 use Rattle.image_writer.specs.Past.{past_number}
-use Rattle.image_writer.proofs.Keeps.{none_passed, more-passed}
 use Rattle.image_writer.proofs.writer.pass_numbers.Goals as goal
 
-pub loop-i-init : goal.loop-i-init
-loop-i-init c = (none_passed (past_number c.args.image.now), omega arith, refl)
-
-pub loop-i-preserved : goal.loop-i-preserved
-loop-i-preserved c =
-    let l = c.loop-i in
-    (more-passed (past_number c.args.image.now) l.i l.invariant.0 c.pass_number-c.ensures.passed, omega arith, omega (arith, l.invariant.2, c.out-1.given))
+pub returns : goal.returns
+returns c = c.pass_times.ensures c.args.image.now (past_number c.args.image.now) (λ out d r after h. search rules)

@@ -1,11 +1,7 @@
--- `pass_optional_pair` meets its contract: by its mark.
+-- `pass_optional_pair` meets its contract: each call of its closure passes one part.
+use Rattle.std.proofs.Common.{rules}
 use Rattle.image_writer.specs.Past.{past_pair}
-use Rattle.image_writer.proofs.Keeps.{absent_passed, present_passed}
 use Rattle.image_writer.proofs.writer.pass_optional_pair.Goals as goal
 
-pub returns-then-mark-eq0 : goal.returns-then-mark-eq0
-returns-then-mark-eq0 c = absent_passed (past_pair c.args.image.now) c.pass_number-mark.ensures.passed c.pass_number-mark.ensures.number c.if-mark-eq0.true
-
 pub returns : goal.returns
-returns c =
-    present_passed (past_pair c.args.image.now) c.pass_number-mark.ensures.passed c.pass_number-mark.ensures.number c.if-mark-eq0.false c.pass_pair.ensures
+returns c = c.pass_optional.ensures (past_pair c.args.image.now) (λ out d r after h. search rules)

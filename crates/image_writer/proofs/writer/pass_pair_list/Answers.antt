@@ -1,7 +1,7 @@
--- `pass_pair_list` meets its contract: a number, and what it announces.
+-- `pass_pair_list` meets its contract: each call of its closure passes one part.
+use Rattle.std.proofs.Common.{rules}
 use Rattle.image_writer.specs.Past.{past_pair}
-use Rattle.image_writer.proofs.Keeps.{list_passed}
 use Rattle.image_writer.proofs.writer.pass_pair_list.Goals as goal
 
 pub returns : goal.returns
-returns c = list_passed (past_pair c.args.image.now) c.pass_number-count.ensures.passed c.pass_number-count.ensures.number c.pass_pairs.ensures
+returns c = c.pass_list.ensures (past_pair c.args.image.now) (λ out d r after h. search rules)

@@ -1,17 +1,21 @@
 -- `pass_raw` meets its contract: the bytes that were read stand there, and are written.
-use Prim.Native.Nat.{◌+◌, ◌-◌}
-use native.Mathlib.Omega.{arith}
-use Rattle.image_writer.proofs.Keeps.{raw-passed, raw-stays}
+use Rattle.std.proofs.Common.{arith, rules}
+use Rattle.image_writer.proofs.Keeps.{raw-there, raw-passed, raw-stays}
 use Rattle.image_writer.proofs.writer.pass_raw.Goals as goal
 
-pub returns-then-image-from : goal.returns-then-image-from
-returns-then-image-from c = raw-stays c.args.image.now c.args.c c.args.out.now c.args.count (omega arith)
+pub slice_bounds-write_bytes-count : goal.slice_bounds-write_bytes-count
+slice_bounds-write_bytes-count c = let there = raw-there c.args.image.now c.args.c.from c.args.count c.in-Ok.ensures in omega (arith, there.0)
 
-pub returns-then-image-from-2 : goal.returns-then-image-from-2
-returns-then-image-from-2 c = raw-stays c.args.image.now c.args.c c.args.out.now c.args.count (omega arith)
+pub slice_bounds-write_bytes-start : goal.slice_bounds-write_bytes-start
+slice_bounds-write_bytes-start c = let there = raw-there c.args.image.now c.args.c.from c.args.count c.in-Ok.ensures in search (rules, there)
 
-pub returns : goal.returns
-returns c =
+pub slice_bounds-write_bytes-end : goal.slice_bounds-write_bytes-end
+slice_bounds-write_bytes-end c = let there = raw-there c.args.image.now c.args.c.from c.args.count c.in-Ok.ensures in search (rules, there)
+
+pub returns-in-Ok : goal.returns-in-Ok
+returns-in-Ok c =
     let a = c.args in
-    let w = c.write_bytes in
-    raw-passed a.image.now a.c a.out.now a.count (a.c.from + a.count - a.c.from) _ w.result _ (omega arith) (omega arith) w.ensures c.place_of-next.ensures
+    raw-passed a.image.now a.c a.out.now a.count c.in-Ok.ensures c.write_bytes.ensures c.unwrap_or-to.ensures
+
+pub returns-in-Err : goal.returns-in-Err
+returns-in-Err c = let a = c.args in raw-stays a.image.now a.c a.out.now a.count c.in-Err.ensures

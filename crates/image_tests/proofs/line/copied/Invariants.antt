@@ -1,9 +1,0 @@
--- `copied` is safe and ends: the measure is what is left of the piece, and the buffer keeps its length.
-use Rattle.std.proofs.Common.{◌≡◌, ◌-◌, length}
-use Rattle.image_tests.proofs.line.copied.Given as goal
-
-abbrev pub invariant-loop-n : goal.invariant-loop-n
-invariant-loop-n l = length l.image ≡ length l.initial.image
-
-abbrev pub decreases-loop-n : goal.decreases-loop-n
-decreases-loop-n l = l.size - l.n

@@ -1,0 +1,13 @@
+-- `arguments` meets its contract: the closure ends where its field ends.
+use Rattle.std.proofs.Common.{rules, ◌∙◌}
+use Rattle.image.specs.Image.{operand}
+use Rattle.image.specs.Answer.{shape}
+use Rattle.image.proofs.Shapes.{same-list}
+use Rattle.loader.specs.Counts.{counts_of}
+use Rattle.loader.proofs.fields.Fields.arguments.Goals as goal
+
+pub returns : goal.returns
+returns c =
+    let s = c.args.self.image.now in
+    let n = counts_of c.args.self.counts in
+    c.list.ensures (λ at. shape (operand s n at)) (λ at r h. search rules) ∙ same-list (operand s n) s 16 c.args.at

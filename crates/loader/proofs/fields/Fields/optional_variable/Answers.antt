@@ -1,0 +1,13 @@
+-- `optional_variable` meets its contract: the closure ends where its field ends.
+use Rattle.std.proofs.Common.{rules, ◌∙◌}
+use Rattle.image.specs.Image.{var}
+use Rattle.image.specs.Answer.{shape}
+use Rattle.image.proofs.Shapes.{same-optional}
+use Rattle.loader.specs.Counts.{counts_of}
+use Rattle.loader.proofs.fields.Fields.optional_variable.Goals as goal
+
+pub returns : goal.returns
+returns c =
+    let s = c.args.self.image.now in
+    let n = counts_of c.args.self.counts in
+    c.optional.ensures (λ at. shape (var s n at)) (λ at r h. search rules) ∙ same-optional (var s n) s c.args.at

@@ -1,9 +1,0 @@
--- `constant_after` meets its contract: a number below its count.
-use mathlib.Core.Path.{ap, ◌∙◌}
-use Rattle.image.specs.Image.{constant}
-use Rattle.image.specs.Answer.{shape}
-use Rattle.loader.proofs.operand.constant_after.Goals as goal
-
-pub returns : goal.returns
-unfolding constant
-returns c = c.past.ensures ∙ ap shape c.below_after.ensures
