@@ -2,52 +2,13 @@
 #![tactic(auto)]
 
 ghost use Rattle.std.specs.Prelude.{◌≡◌, ◌+◌, ◌≤◌, length, take, drop, replicate};
-ghost use Rattle.std.proofs.Math.Seq.{paste};
 ghost use Rattle.memory.specs.Tables.{tables, both, written_of, constant_of, written_after, copied_of};
 
-use memory::{
-    Outcome, Place, Registers, Source, constant_access, read_access, write_access, write_bytes,
-};
-
-// From the first byte on: right where they go down, or stay.
-fn move_down(s: &mut [u8], to: usize, from: usize, count: usize)
-    requires { (to ≤ from) × (from + count ≤ length s.old) }
-    ensures { s.new ≡ paste s.old to (take count (drop from s.old)) count }
-{
-    let mut i = 0;
-    while i < count {
-        let byte = s[from + i];
-        s[to + i] = byte;
-        i += 1;
-    }
-}
-
-// From the last byte on: right where they go up, or stay.
-fn move_up(s: &mut [u8], to: usize, from: usize, count: usize)
-    requires { (from ≤ to) × (to + count ≤ length s.old) }
-    ensures { s.new ≡ paste s.old to (take count (drop from s.old)) count }
-{
-    let mut i = count;
-    while 0 < i {
-        i -= 1;
-        let byte = s[from + i];
-        s[to + i] = byte;
-    }
-}
-
-// Within the store, where the two parts may overlap.
-fn move_bytes(s: &mut [u8], to: usize, from: usize, count: usize)
-    requires { (to + count ≤ length s.old) × (from + count ≤ length s.old) }
-    ensures { s.new ≡ paste s.old to (take count (drop from s.old)) count }
-{
-    if to <= from {
-        move_down(s, to, from, count);
-    } else {
-        move_up(s, to, from, count);
-    }
-}
+use memory::{Registers, Source, constant_access, read_access, write_access, write_bytes};
+use value::refusal::Refusal;
 
 // The store's own bytes from `from` on are written through pointer `to`.
+#[tactic(auto, using(crate::proofs::Copies::local), unfolding(memory::specs::Tables::written_of))]
 fn copy_local(
     m: Registers,
     to: usize,
@@ -57,20 +18,17 @@ fn copy_local(
     frames: &[u64],
     bounds: &[u64],
     pointers: &[u64],
-) -> Outcome
+) -> Result<(), Refusal>
     requires { from + count ≤ length store.old }
     ensures { both result store.new ≡ written_of (tables m store.old frames.now bounds.now pointers.now) to (take count (drop from store.old)) }
 {
-    match write_access(m, to, count, store, frames, bounds, pointers) {
-        Place::At(at) => {
-            move_bytes(store, at, from, count);
-            Outcome::Done
-        }
-        Place::Refused(n) => Outcome::Refused(n),
-    }
+    let at = write_access(m, to, count, store, frames, bounds, pointers)?;
+    store.copy_within(from..from + count, at);
+    Ok(())
 }
 
 // The first bytes of constant k are written through pointer `to`.
+#[tactic(auto, using(crate::proofs::Copies::copied), unfolding(memory::specs::Tables::constant_of))]
 fn copy_constant(
     m: Registers,
     to: usize,
@@ -82,19 +40,16 @@ fn copy_constant(
     pointers: &[u64],
     raw: &[u8],
     extents: &[u64],
-) -> Outcome
+) -> Result<(), Refusal>
     ensures { both result store.new ≡ written_after (tables m store.old frames.now bounds.now pointers.now) to (constant_of k (replicate count 0) raw.now extents.now) }
 {
-    match constant_access(k, count as u64, raw, extents) {
-        Place::At(start) => {
-            let end = start + count;
-            write_bytes(m, to, &raw[start..end], store, frames, bounds, pointers)
-        }
-        Place::Refused(n) => Outcome::Refused(n),
-    }
+    let start = constant_access(k, count as u64, raw, extents)?;
+    let bytes = &raw[start..start + count];
+    write_bytes(m, to, bytes, store, frames, bounds, pointers)
 }
 
 // `count` bytes go from where pointer `from` leads to where pointer `to` does: the read's checks in full, then the write's.
+#[tactic(auto, using(crate::proofs::Copies::copied), unfolding(memory::specs::Tables::copied_of, memory::specs::Tables::read_of))]
 pub fn copy_bytes(
     m: Registers,
     to: usize,
@@ -106,14 +61,13 @@ pub fn copy_bytes(
     pointers: &[u64],
     raw: &[u8],
     extents: &[u64],
-) -> Outcome
+) -> Result<(), Refusal>
     ensures { both result store.new ≡ copied_of (tables m store.old frames.now bounds.now pointers.now) to from count raw.now extents.now }
 {
-    match read_access(m, from, count, store, frames, bounds, pointers) {
+    match read_access(m, from, count, store, frames, bounds, pointers)? {
         Source::Local(at) => copy_local(m, to, at, count, store, frames, bounds, pointers),
         Source::Constant(k) => copy_constant(
             m, to, k, count, store, frames, bounds, pointers, raw, extents,
         ),
-        Source::Refused(n) => Outcome::Refused(n),
     }
 }

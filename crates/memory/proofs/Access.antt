@@ -1,4 +1,5 @@
 -- Accesses through the view: each check of the tables is the believed one's, in the same order; so reads and writes are too.
+use Rattle.std.specs.Prelude.{Result, Ok, Err}
 use mathlib.Core.Path.{◌≡◌, refl, ap, ◌∙◌, sym}
 use mathlib.Core.List.{List, []}
 use mathlib.Core.Bool.{Bool, true, false}
@@ -9,6 +10,7 @@ use lib.ListN.{get_or, length, take, drop}
 use lib.Seq.{paste, length-paste, take-take}
 use lib.Dec.{ltb, leb, eqb}
 use borrow.Author.Tests.{ltb-true, ltb-false, leb-true, leb-false, lt-ltb, le-ltb, le-leb, lt-leb, ne_eqb}
+use Rattle.value.specs.declared.refusal.Refusal.{Refusal}
 use Rattle.value.specs.Answer.{Answer, ok, refused, need}
 use Rattle.value.specs.Refusal.{not_given_out, through_constant, frame_gone, no_allocation, beyond_length, misaligned}
 use Rattle.memory.specs.Memory.{Frame, constant, local, no_frame, stands, divides, access, written, write_at, write_bytes, read_constant, read_at, read_bytes}
@@ -16,14 +18,11 @@ use Rattle.memory.specs.Memory as M
 use Rattle.memory.specs.Tables.{Tables, both, ready, live, bound, pointer_at, aligned_of, within_of, ranked_of, standing_of, from_store, accessed_at, local_of, read_access_of, for_write, write_access_of, put_at, written_of, constant_access_of, constant_of, get_at, read_of}
 use Rattle.memory.specs.View.{tab, part, bytes_of, allocations_in, frame_in, view, constants_in, after_write, after_read}
 use Rattle.memory.specs.declared.PointerRecord.{PointerRecord}
-use Rattle.memory.specs.declared.Place.{Place}
-use Rattle.memory.specs.declared.Place.TheVariants as place
 use Rattle.memory.specs.declared.Source.{Source}
 use Rattle.memory.specs.declared.Source.TheVariants as source
-use Rattle.memory.specs.declared.Outcome.TheVariants as outcome
 use Rattle.memory.proofs.Every.{by_test}
 use Rattle.memory.proofs.Tab.{length-tab, get_d_tab, part_length}
-use Rattle.memory.proofs.Laws.{local_at, write-fits}
+use Rattle.memory.proofs.Laws.{never, local_at, write-fits}
 use Rattle.memory.proofs.Facts.{Sound, ready_test}
 use Rattle.memory.proofs.Frames.{ends_up, end_live}
 use Rattle.memory.proofs.Pointers.{count-seen, pointer-seen, seen-local, seen-constant}
@@ -31,10 +30,10 @@ use Rattle.memory.proofs.Counts.{length-allocations, length-bytes}
 use Rattle.memory.proofs.Bytes.{store_tables, write-seen, write_kept, read-seen}
 
 -- the answer, where the access was granted
-abbrev pub granted : {A : Type 0} → Source → Answer A → Answer A
-granted (source.Local x) a = a
-granted (source.Constant k) a = a
-granted (source.Refused n) a = refused n
+abbrev pub granted : {A : Type 0} → (Result Source Refusal) → Answer A → Answer A
+granted (Ok (source.Local x)) a = a
+granted (Ok (source.Constant k)) a = a
+granted (Err n) a = refused n
 
 aligned_divides : (o n : ℕ) → aligned_of o n ≡ divides n o
 unfolding aligned_of
@@ -70,11 +69,11 @@ frame-access : {A : Type 0} (fs : List Frame) (i f j o n : ℕ) (a : Answer A) (
 unfolding access
 frame-access fs i f j o n a G e h = simp (lt-ltb _ _ h, e)
 
-stays : {A : Type 0} (b : Bool) (n : ℕ) (a : Answer A) → b ≡ true → need b n a ≡ a
+stays : {A : Type 0} (b : Bool) (n : Refusal) (a : Answer A) → b ≡ true → need b n a ≡ a
 unfolding need
 stays b n a e = simp e
 
-goes : {A : Type 0} (b : Bool) (n : ℕ) (a : Answer A) → b ≡ false → need b n a ≡ refused n
+goes : {A : Type 0} (b : Bool) (n : Refusal) (a : Answer A) → b ≡ false → need b n a ≡ refused n
 unfolding need
 goes b n a e = simp e
 
@@ -141,16 +140,16 @@ module _ (t : Tables) (so : Sound t) where
 
 -- ---- writes
 
-from_store_local : (p : Place) (k : ℕ) → from_store p ≡ source.Constant k → ⊥
-from_store_local (place.At x) k e = let z : ◌≡◌ {A = ℕ} 0 1 = cc in omega arith
-from_store_local (place.Refused m) k e = let z : ◌≡◌ {A = ℕ} 0 1 = cc in omega arith
+from_store_local : (p : (Result ℕ Refusal)) (k : ℕ) → from_store p ≡ Ok (source.Constant k) → ⊥
+from_store_local (Ok x) k e = let z : ◌≡◌ {A = ℕ} 0 1 = cc in omega arith
+from_store_local (Err m) k e = never m (source.Constant k) e
 
-accessed_local : (p : Place) (bo : List ℕ) (o n k : ℕ) → accessed_at p bo o n ≡ source.Constant k → ⊥
-accessed_local (place.At x) bo o n k e = from_store_local (within_of (get_or bo x 0) (get_or bo (x + 1) 0) o n) k e
-accessed_local (place.Refused m) bo o n k e = let z : ◌≡◌ {A = ℕ} 0 1 = cc in omega arith
+accessed_local : (p : (Result ℕ Refusal)) (bo : List ℕ) (o n k : ℕ) → accessed_at p bo o n ≡ Ok (source.Constant k) → ⊥
+accessed_local (Ok x) bo o n k e = from_store_local (within_of (get_or bo x 0) (get_or bo (x + 1) 0) o n) k e
+accessed_local (Err m) bo o n k e = never m (source.Constant k) e
 
 -- a local access never leads to a constant
-local-local : (d : ℕ) (fr bo : List ℕ) (q : PointerRecord) (n k : ℕ) → local_of d fr bo q n ≡ source.Constant k → ⊥
+local-local : (d : ℕ) (fr bo : List ℕ) (q : PointerRecord) (n k : ℕ) → local_of d fr bo q n ≡ Ok (source.Constant k) → ⊥
 unfolding local_of
 local-local d fr bo q n k e = accessed_local (standing_of d fr q) bo q.offset n k e
 
@@ -159,12 +158,12 @@ module _ (t : Tables) (so : Sound t) where
   is-ready = ready_test _ _ _ _ _ _ so.ready
 
   -- what pointer p reads: not given out, a constant, or a local access
-  not-given : (p n : ℕ) → t.registers.pointers ≤ p → read_access_of t p n ≡ source.Refused not_given_out
+  not-given : (p n : ℕ) → t.registers.pointers ≤ p → read_access_of t p n ≡ Err not_given_out
   unfolding read_access_of
   not-given p n h = simp (is-ready, le-leb _ _ h)
 
   pub through-constant : (p n : ℕ) → p < t.registers.pointers → eqb (pointer_at t.pointers p).kind 0 ≡ false
-      → read_access_of t p n ≡ source.Constant (pointer_at t.pointers p).index
+      → read_access_of t p n ≡ Ok (source.Constant (pointer_at t.pointers p).index)
   unfolding read_access_of
   through-constant p n h k = simp (is-ready, lt-leb _ _ h, k)
 
@@ -184,11 +183,11 @@ module _ (t : Tables) (so : Sound t) where
   unfolding write_at
   write-constant k bytes = refl
 
-  write-local : (q : PointerRecord) (bytes : List ℕ) (r : Source) → local_of t.registers.depth t.frames t.bounds q (length bytes) ≡ r
+  write-local : (q : PointerRecord) (bytes : List ℕ) (r : (Result Source Refusal)) → local_of t.registers.depth t.frames t.bounds q (length bytes) ≡ r
       → after_write t (put_at (for_write r) t.store bytes)
       ≡ granted r (ok (written (view t) q.index q.allocation q.offset bytes))
   unfolding after_write
-  write-local q bytes (source.Local x) e =
+  write-local q bytes (Ok (source.Local x)) e =
       let a = local_at t.registers.depth t.frames t.bounds q (length bytes) x e in
       let k = a.rank in
       let s = a.standing in
@@ -199,8 +198,8 @@ module _ (t : Tables) (so : Sound t) where
       rw rk at w.fits in
       ap (λ y. ok (view (store_tables t (paste t.store y bytes (length bytes))))) at
       ∙ ap ok (write-seen t so q.index q.allocation q.offset bytes s.stands s.ranked.has fits)
-  write-local q bytes (source.Constant k) e = absurd (local-local _ _ _ q (length bytes) k e)
-  write-local q bytes (source.Refused m) e = refl
+  write-local q bytes (Ok (source.Constant k)) e = absurd (local-local _ _ _ q (length bytes) k e)
+  write-local q bytes (Err m) e = refl
 
   write-at : (q : PointerRecord) (bytes : List ℕ)
       → access (view t).frames q.index q.id q.allocation q.offset (length bytes) (ok (written (view t) q.index q.allocation q.offset bytes))
@@ -208,7 +207,7 @@ module _ (t : Tables) (so : Sound t) where
   unfolding write_at
   write-at q bytes = refl
 
-  write-refused : (n : ℕ) (l : List ℕ) → after_write t (both (outcome.Refused n) l) ≡ refused n
+  write-refused : (n : Refusal) (l : List ℕ) → after_write t (both (Err n) l) ≡ refused n
   unfolding after_write
   write-refused n l = refl
 
@@ -232,15 +231,12 @@ module _ (t : Tables) (so : Sound t) where
       ∙ write-refused through_constant t.store
       ∙ sym (stays _ not_given_out _ (given_test p c) ∙ ap (λ x. write_at (view t) x bytes) (pointer-seen t so p c ∙ seen-constant t so q v) ∙ write-constant q.index bytes)))
 
-  never_done : (n : ℕ) → outcome.Refused n ≡ outcome.Done → ⊥
-  never_done n e = let z : ◌≡◌ {A = ℕ} 0 1 = cc in omega arith
+  put-kept : (pl : (Result ℕ Refusal)) (bytes : List ℕ) → ((x : ℕ) → pl ≡ Ok x → x + length bytes ≤ length t.store)
+      → (put_at pl t.store bytes).answer ≡ (Ok tt) → Sound (store_tables t (put_at pl t.store bytes).table)
+  put-kept (Ok x) bytes f e = write_kept t so _ (length-paste t.store x bytes (length bytes) (f x refl) (omega arith))
+  put-kept (Err n) bytes f e = absurd (never n tt e)
 
-  put-kept : (pl : Place) (bytes : List ℕ) → ((x : ℕ) → pl ≡ place.At x → x + length bytes ≤ length t.store)
-      → (put_at pl t.store bytes).answer ≡ outcome.Done → Sound (store_tables t (put_at pl t.store bytes).table)
-  put-kept (place.At x) bytes f e = write_kept t so _ (length-paste t.store x bytes (length bytes) (f x refl) (omega arith))
-  put-kept (place.Refused n) bytes f e = absurd (never_done n e)
-
-  pub write-sound : (p : ℕ) (bytes : List ℕ) → (written_of t p bytes).answer ≡ outcome.Done → Sound (store_tables t (written_of t p bytes).table)
+  pub write-sound : (p : ℕ) (bytes : List ℕ) → (written_of t p bytes).answer ≡ (Ok tt) → Sound (store_tables t (written_of t p bytes).table)
   unfolding written_of
   write-sound p bytes e = put-kept (write_access_of t p (length bytes)) bytes (λ x. write-fits t p (length bytes) x) e
 
@@ -250,11 +246,11 @@ module _ (t : Tables) (so : Sound t) where
 abbrev pub Extents : (raw extents : List ℕ) → Type 0
 Extents raw extents = (k : ℕ) → k < length extents / 2 → get_or extents (k * 2) 0 + get_or extents (k * 2 + 1) 0 ≤ length raw
 
-read_done : (l : List ℕ) → after_read (both outcome.Done l) ≡ ok l
+read_done : (l : List ℕ) → after_read (both (Ok tt) l) ≡ ok l
 unfolding after_read
 read_done l = refl
 
-read-refused : (n : ℕ) (l : List ℕ) → after_read (both (outcome.Refused n) l) ≡ refused n
+read-refused : (n : Refusal) (l : List ℕ) → after_read (both (Err n) l) ≡ refused n
 unfolding after_read
 read-refused n l = refl
 
@@ -283,15 +279,15 @@ constant-view raw extents good k bytes =
     simp (u, x, y, v, z, g, ap (λ i. leb n i) p ∙ le-leb n l h) (ap ok (sym (take-take n l (drop s raw) h)))))
 
 -- what a read of n bytes gives, by where it takes them
-abbrev pub bytes_from : Source → (store : List ℕ) → (constants : List (List ℕ)) → (n : ℕ) → Answer (List ℕ)
-bytes_from (source.Local x) store constants n = ok (part store x n)
-bytes_from (source.Constant k) store constants n = read_constant constants k n
-bytes_from (source.Refused m) store constants n = refused m
+abbrev pub bytes_from : (Result Source Refusal) → (store : List ℕ) → (constants : List (List ℕ)) → (n : ℕ) → Answer (List ℕ)
+bytes_from (Ok (source.Local x)) store constants n = ok (part store x n)
+bytes_from (Ok (source.Constant k)) store constants n = read_constant constants k n
+bytes_from (Err m) store constants n = refused m
 
 module _ (t : Tables) (so : Sound t) (constants : List (List ℕ)) where
-  read-local : (q : PointerRecord) (n : ℕ) (r : Source) → local_of t.registers.depth t.frames t.bounds q n ≡ r
+  read-local : (q : PointerRecord) (n : ℕ) (r : (Result Source Refusal)) → local_of t.registers.depth t.frames t.bounds q n ≡ r
       → bytes_from r t.store constants n ≡ granted r (ok (take n (drop q.offset (M.bytes_at (view t).frames q.index q.allocation))))
-  read-local q n (source.Local x) e =
+  read-local q n (Ok (source.Local x)) e =
       let a = local_at t.registers.depth t.frames t.bounds q n x e in
       let s = a.standing in
       let rk = s.ranked.rank in
@@ -300,8 +296,8 @@ module _ (t : Tables) (so : Sound t) (constants : List (List ℕ)) where
       let fits : q.offset + n ≤ bound t (get_or t.frames (q.index * 4 + 3) 0 + q.allocation + 1) - bound t (get_or t.frames (q.index * 4 + 3) 0 + q.allocation) =
       rw rk at w.fits in
       ap (λ y. ok (part t.store y n)) at ∙ ap ok (read-seen t so q.index q.allocation q.offset n s.stands s.ranked.has fits)
-  read-local q n (source.Constant k) e = absurd (local-local _ _ _ q n k e)
-  read-local q n (source.Refused m) e = refl
+  read-local q n (Ok (source.Constant k)) e = absurd (local-local _ _ _ q n k e)
+  read-local q n (Err m) e = refl
 
   read_at_local : (q : PointerRecord) (n : ℕ)
       → access (view t).frames q.index q.id q.allocation q.offset n (ok (take n (drop q.offset (M.bytes_at (view t).frames q.index q.allocation))))
@@ -332,11 +328,11 @@ module _ (t : Tables) (so : Sound t) (constants : List (List ℕ)) where
       ∙ read_at_constant q.index n
       ∙ sym (stays _ not_given_out _ (given_test t so p c) ∙ ap (λ x. read_at constants (view t).frames x n) (pointer-seen t so p c ∙ seen-constant t so q v))))
 
-get_seen : (raw extents : List ℕ) → Extents raw extents → (r : Source) (store bytes : List ℕ)
+get_seen : (raw extents : List ℕ) → Extents raw extents → (r : (Result Source Refusal)) (store bytes : List ℕ)
     → after_read (get_at r store bytes raw extents) ≡ bytes_from r store (constants_in raw extents) (length bytes)
-get_seen raw extents good (source.Local x) store bytes = read_done _
-get_seen raw extents good (source.Constant k) store bytes = constant-view raw extents good k bytes
-get_seen raw extents good (source.Refused m) store bytes = read-refused m bytes
+get_seen raw extents good (Ok (source.Local x)) store bytes = read_done _
+get_seen raw extents good (Ok (source.Constant k)) store bytes = constant-view raw extents good k bytes
+get_seen raw extents good (Err m) store bytes = read-refused m bytes
 
 -- Reading into lent bytes is the believed one, with the constants of the image.
 pub read_view : (t : Tables) → Sound t → (raw extents : List ℕ) → Extents raw extents → (p : ℕ) (bytes : List ℕ)

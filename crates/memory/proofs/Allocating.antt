@@ -1,4 +1,5 @@
 -- Allocating through the view: the old allocations keep their bytes, the new one is all 0, and the top frame has one more.
+use Rattle.std.specs.Prelude.{Result, Ok, Err}
 use mathlib.Core.Path.{◌≡◌, refl, ap, ◌∙◌, sym}
 use mathlib.Core.List.{List, [], ◌∷◌, ◌++◌}
 use mathlib.Core.Bool.{true, false}
@@ -8,6 +9,7 @@ use lib.ListN.{get_or, set, length, replicate, length-set, length-replicate}
 use lib.Seq.{paste, length-paste, take_all, get_or-set_same, get_or-set_other}
 use lib.Dec.{ltb, leb, eqb}
 use borrow.Author.Tests.{ltb-true, ltb-false, leb-true, leb-false, eqb-true, eqb-false, lt-ltb, le-ltb, le-leb, lt-leb, ne_eqb}
+use Rattle.value.specs.declared.refusal.Refusal.{Refusal}
 use Rattle.value.specs.Answer.{ok, refused, need, pick}
 use Rattle.value.specs.Refusal.{allocations_full, bytes_full, pointers_full}
 use Rattle.memory.specs.Memory.{Frame, local, no_frame, with_allocations, allocated, allocate}
@@ -15,11 +17,10 @@ use Rattle.memory.specs.Tables.{Tables, tables, Out, more, pointer, pointer_at, 
 use Rattle.memory.specs.View.{tab, part, bytes_of, allocations_in, frame_in, pointer_in, view, after_allocate}
 use Rattle.memory.specs.declared.Registers.{Registers}
 use Rattle.memory.specs.declared.PointerRecord.{PointerRecord}
-use Rattle.memory.specs.declared.Given.{Given}
-use Rattle.memory.specs.declared.Given.TheVariants as given
 use Rattle.memory.proofs.Lists.{zeroed_paste, full}
 use Rattle.memory.proofs.Every.{by_test}
 use Rattle.memory.proofs.Tab.{tab-more, length-tab, tab-same, get_d_tab, tab-set, part_length, part-below, part_in}
+use Rattle.memory.proofs.Laws.{ok_same}
 use Rattle.memory.proofs.Facts.{FrameSound, Sound, ready_test}
 use Rattle.memory.proofs.Frames.{frame_same, memory-same, firsts_up, ends_up, end_live}
 use Rattle.memory.proofs.Pointers.{given-more, length_pointer_set, pointer_other, pointer-put, count-seen, kind_at, local-ok, never_given}
@@ -274,15 +275,15 @@ module _ (s : Tables) (so : Sound s) (size : ℕ)
 
 -- ---- the answer
 
-room-bytes : (u size p : ℕ) → u ≤ 32768 → 32768 < u + size → room_of u size p ≡ bytes_full
+room-bytes : (u size p : ℕ) → u ≤ 32768 → 32768 < u + size → room_of u size p ≡ Err bytes_full
 unfolding room_of
 room-bytes u size p h k = simp (le-ltb _ _ h, lt-ltb (32768 - u) size (omega arith))
 
-room-pointers : (u size p : ℕ) → u + size ≤ 32768 → 4096 ≤ p → room_of u size p ≡ pointers_full
+room-pointers : (u size p : ℕ) → u + size ≤ 32768 → 4096 ≤ p → room_of u size p ≡ Err pointers_full
 unfolding room_of
 room-pointers u size p h k = simp (le-ltb 32768 u (omega arith), le-ltb (32768 - u) size (omega arith), le-leb _ _ k)
 
-room-left : (u size p : ℕ) → u + size ≤ 32768 → p < 4096 → room_of u size p ≡ 0
+room-left : (u size p : ℕ) → u + size ≤ 32768 → p < 4096 → room_of u size p ≡ Ok tt
 unfolding room_of
 room-left u size p h k = simp (le-ltb 32768 u (omega arith), le-ltb (32768 - u) size (omega arith), lt-leb _ _ k)
 
@@ -345,33 +346,31 @@ module _ (t : Tables) (so : Sound t) (size : ℕ) where
   pub allocate-view : after_allocate (allocated_of t size) ≡ allocate (view t) size
   allocate-view = seen allocation
 
-  abbrev answer : Out → Given
+  abbrev answer : Out → Result (ℕ × Registers) Refusal
   answer o = o.answer
 
   abbrev afterwards : Registers → Out → Tables
   afterwards m o = tables m o.store o.frames o.bounds o.pointers
 
-  kept : Allocation t size → (p : ℕ) (m : Registers) → (allocated_of t size).answer ≡ given.Made p m → Sound (afterwards m (allocated_of t size))
+  kept : Allocation t size → (p : ℕ) (m : Registers) → (allocated_of t size).answer ≡ Ok (p, m) → Sound (afterwards m (allocated_of t size))
   kept (full_allocations a b) p m e = absurd (never_given allocations_full p m (sym (ap answer a) ∙ e))
   kept (full_bytes a b) p m e = absurd (never_given bytes_full p m (sym (ap answer a) ∙ e))
   kept (full_pointers a b) p m e = absurd (never_given pointers_full p m (sym (ap answer a) ∙ e))
   kept (room_for few room left a b) p m e =
-      let f : given.Made t.registers.pointers (more t.registers) ≡ given.Made p m = sym (ap answer a) ∙ e in
-      let g : more t.registers ≡ m = cc in
+      let g : more t.registers ≡ m = ap (λ x. x.1) (ok_same (t.registers.pointers, more t.registers) (p, m) (sym (ap answer a) ∙ e)) in
       rw a (rw g at (alloc_kept t so size few room left))
 
-  pub allocate-sound : (p : ℕ) (m : Registers) → (allocated_of t size).answer ≡ given.Made p m → Sound (afterwards m (allocated_of t size))
+  pub allocate-sound : (p : ℕ) (m : Registers) → (allocated_of t size).answer ≡ Ok (p, m) → Sound (afterwards m (allocated_of t size))
   allocate-sound = kept allocation
 
-  numbered : Allocation t size → (p : ℕ) (m : Registers) → (allocated_of t size).answer ≡ given.Made p m → p ≡ length (view t).pointers
+  numbered : Allocation t size → (p : ℕ) (m : Registers) → (allocated_of t size).answer ≡ Ok (p, m) → p ≡ length (view t).pointers
   numbered (full_allocations a b) p m e = absurd (never_given allocations_full p m (sym (ap answer a) ∙ e))
   numbered (full_bytes a b) p m e = absurd (never_given bytes_full p m (sym (ap answer a) ∙ e))
   numbered (full_pointers a b) p m e = absurd (never_given pointers_full p m (sym (ap answer a) ∙ e))
   numbered (room_for few room left a b) p m e =
-      let f : given.Made t.registers.pointers (more t.registers) ≡ given.Made p m = sym (ap answer a) ∙ e in
-      let g : p ≡ t.registers.pointers = cc in
-      g ∙ sym (count-seen t so)
+      let g : t.registers.pointers ≡ p = ap (λ x. x.0) (ok_same (t.registers.pointers, more t.registers) (p, m) (sym (ap answer a) ∙ e)) in
+      sym g ∙ sym (count-seen t so)
 
   -- The number given is that of pointers before.
-  pub allocate-number : (p : ℕ) (m : Registers) → (allocated_of t size).answer ≡ given.Made p m → p ≡ length (view t).pointers
+  pub allocate-number : (p : ℕ) (m : Registers) → (allocated_of t size).answer ≡ Ok (p, m) → p ≡ length (view t).pointers
   allocate-number = numbered allocation

@@ -1,4 +1,5 @@
 -- Fresh tables are sound, and the view of them is the fresh memory: every word is 0.
+use Rattle.std.specs.Prelude.{Ok}
 use mathlib.Core.Path.{◌≡◌, refl, ap, ◌∙◌}
 use mathlib.Core.List.{List, [], ◌∷◌}
 use mathlib.Core.Bool.{true}
@@ -13,7 +14,6 @@ use Rattle.memory.specs.Memory as M
 use Rattle.memory.specs.Stored.{stored_value}
 use Rattle.memory.specs.Tables.{Tables, tables, state, registers, stored_ok, variable_ok, registers_ok, sound_of, ready, All, fresh_of}
 use Rattle.memory.specs.View.{tab, variable_in, back_in, view, variables_in}
-use Rattle.memory.specs.declared.Moved.TheVariants as moved
 use Rattle.memory.proofs.Every.{every-all}
 use Rattle.memory.proofs.Laws.{fresh-made}
 use Rattle.memory.proofs.Facts.{Sound, FrameSound, sound_test, ready_test}
@@ -96,7 +96,7 @@ module _ (s f b p v : List ℕ) (ls : length s ≡ 32768) (lf : length f ≡ 260
 
 -- Fresh memory: refused only for wrong lengths; else a sound state, idle at place 0, whose view is the fresh memory with no variable set.
 pub record Fresh (o : All) : Type 0 where
-  pub answer : o.answer ≡ moved.Done (registers 0 0 1 1 0)
+  pub answer : o.answer ≡ Ok (registers 0 0 1 1 0)
   pub sound : sound_of (state (tables (registers 0 0 1 1 0) o.store o.frames o.bounds o.pointers) o.variables) ≡ true
   pub memory : view (tables (registers 0 0 1 1 0) o.store o.frames o.bounds o.pointers) ≡ M.fresh
   pub unset : (x : ℕ) → variables_in o.variables x ≡ none

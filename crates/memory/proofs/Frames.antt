@@ -1,4 +1,6 @@
 -- Push and pop through the view: a frame's words are read one by one before and after, and the frames are tabulated again.
+use Rattle.std.specs.Prelude.{Result, Ok, Err, Some, None}
+use Rattle.std.specs.Prelude as Code
 use mathlib.Core.Path.{◌≡◌, refl, ap, ◌∙◌, sym}
 use mathlib.Core.List.{List, [], ◌∷◌, ◌++◌}
 use mathlib.Core.Option.{Option, some}
@@ -8,15 +10,17 @@ use lib.ListN.{get_or, set, length, take, length-set}
 use lib.Seq.{get_or-set_same, get_or-set_other, take_at}
 use lib.Dec.{ltb, leb}
 use borrow.Author.Tests.{ltb-true, ltb-false, leb-true, leb-false, lt-ltb, le-ltb, eq-eqb}
+use Rattle.value.specs.declared.refusal.Refusal.{Refusal}
 use Rattle.value.specs.Answer.{ok, need}
 use Rattle.value.specs.Refusal.{frames_full, ids_spent}
 use Rattle.memory.specs.Memory.{Back, Frame, Pointer, Memory, frame_at, no_frame, top, push_frame, pop_frame, pushed, popped}
 use Rattle.memory.specs.Tables.{Tables, tables, registers, frame_set, pushed_of, popped_of, lowered, id_above}
+use Rattle.memory.specs.Tables as T
 use Rattle.memory.specs.View.{tab, bytes_of, allocations_in, back_in, frame_in, view, after_push, after_pop}
 use Rattle.memory.specs.declared.Registers.{Registers}
-use Rattle.memory.specs.declared.Moved.TheVariants as moved
-use Rattle.memory.specs.declared.Popped.TheVariants as poppedly
+use Rattle.memory.specs.declared.Popped.{Popped}
 use Rattle.memory.proofs.Every.{by_test}
+use Rattle.memory.proofs.Laws.{never, ok_same}
 use Rattle.memory.proofs.Tab.{tab-none, tab-more, length-tab, tab-same, get_d_tab, mono}
 use Rattle.memory.proofs.Facts.{FrameSound, Sound}
 
@@ -271,22 +275,18 @@ module _ (t : Tables) (so : Sound t) (place variable : ℕ) where
       (ap ok (push-seen t place variable so room))))
 
 -- the answer of a push that was granted
-never_moved : (n : ℕ) (m : Registers) → moved.Refused n ≡ moved.Done m → ⊥
-never_moved n m e = let z : ◌≡◌ {A = ℕ} 0 1 = cc in omega arith
-
 pub push-sound : (t : Tables) → Sound t → (place variable : ℕ) → place ≤ 4096 → variable ≤ 256 → (m : Registers)
-    → (pushed_of t.registers place variable t.frames).answer ≡ moved.Done m
+    → (pushed_of t.registers place variable t.frames).answer ≡ Ok m
     → Sound (tables m t.store (pushed_of t.registers place variable t.frames).table t.bounds t.pointers)
 unfolding pushed_of
 push-sound t so place variable hp hv m e =
     let l : length t.frames ≡ 260 = so.ready.frames in
     let z = eq-eqb _ _ l in
     by_test (leb 64 t.registers.depth)
-    (λ u. absurd (never_moved frames_full m (simp (z, u) at e)))
+    (λ u. absurd (never frames_full m (simp (z, u) at e)))
     (λ u. by_test (leb 4294967295 t.registers.counter)
-    (λ v. absurd (never_moved ids_spent m (simp (z, u, v) at e)))
-    (λ v. let f : moved.Done (push_tables t place variable).registers ≡ moved.Done m = simp (z, u, v) at e in
-    let g : (push_tables t place variable).registers ≡ m = cc in
+    (λ v. absurd (never ids_spent m (simp (z, u, v) at e)))
+    (λ v. let g : (push_tables t place variable).registers ≡ m = ok_same (push_tables t place variable).registers m (simp (z, u, v) at e) in
     simp (z, u, v) (rw g at (push_kept t place variable so (leb-false _ _ u) hp hv (leb-false _ _ v)))))
 
 -- ---- pop
@@ -381,17 +381,23 @@ pop_kept t so h =
           first = f.first;
         }
 
-never_root : (p v : ℕ) (m : Registers) → poppedly.Root ≡ poppedly.Frame p v m → ⊥
-never_root p v m e = let z : ◌≡◌ {A = ℕ} 0 1 = cc in omega arith
+never_root : (p : Popped) → ◌≡◌ {A = Result (Code.Option Popped) Refusal} (Ok None) (Ok (Some p)) → ⊥
+never_root p e = let z : ◌≡◌ {A = ℕ} 0 1 = cc in omega arith
 
-pub pop-sound : (t : Tables) → Sound t → (p v : ℕ) (m : Registers) → popped_of t.registers t.frames ≡ poppedly.Frame p v m
+abbrev registers_in : Code.Option Popped → Registers → Registers
+registers_in (Some p) d = p.registers
+registers_in None d = d
+
+lowered-same : (p v p' v' : ℕ) (m m' : Registers) → ◌≡◌ {A = Result (Code.Option Popped) Refusal} (Ok (Some (T.popped p v m))) (Ok (Some (T.popped p' v' m'))) → m ≡ m'
+lowered-same p v p' v' m m' e = ap (λ o. registers_in o m) (ok_same (Some (T.popped p v m)) (Some (T.popped p' v' m')) e)
+
+pub pop-sound : (t : Tables) → Sound t → (p v : ℕ) (m : Registers) → popped_of t.registers t.frames ≡ Ok (Some (T.popped p v m))
     → Sound (tables m t.store t.frames t.bounds t.pointers)
 unfolding popped_of
 pop-sound t so p v m e =
     let z = eq-eqb _ _ so.ready.frames in
     let y = le-ltb _ _ so.ready.deep in
     by_test (leb t.registers.depth 1)
-    (λ u. absurd (never_root p v m (simp (z, y, u) at e)))
-    (λ u. let f : poppedly.Frame (get_or t.frames (t.registers.depth * 4 - 3) 0) (get_or t.frames (t.registers.depth * 4 - 2) 0) (lowered t.registers) ≡ poppedly.Frame p v m = simp (z, y, u) at e in
-    let g : lowered t.registers ≡ m = cc in
+    (λ u. absurd (never_root (T.popped p v m) (simp (z, y, u) at e)))
+    (λ u. let g : lowered t.registers ≡ m = lowered-same _ _ p v _ m (simp (z, y, u) at e) in
     rw g at (pop_kept t so (leb-false _ _ u)))

@@ -1,4 +1,5 @@
 -- The live list through the view: record by record the believed one; and live is what 25 to 28 say.
+use Rattle.std.specs.Prelude.{Ok}
 use mathlib.Core.Path.{◌≡◌, refl, ap, ◌∙◌, sym}
 use mathlib.Core.List.{List, [], ◌∷◌, ◌++◌, map, map-append}
 use mathlib.Core.Bool.{Bool, true, false, ◌&&◌}
@@ -9,8 +10,9 @@ use lib.ListN.{get_or, set, length, length-set}
 use lib.Seq.{get_or-set_same, get_or-set_other}
 use lib.Dec.{ltb, leb, eqb}
 use borrow.Author.Tests.{leb-true, leb-false, eqb-true, eqb-false, lt-ltb, le-ltb}
+use Rattle.value.specs.declared.refusal.Refusal.{Refusal}
 use Rattle.value.specs.Answer.{Answer, ok, refused, need}
-use Rattle.value.specs.Refusal.{through_constant, frame_gone, no_allocation, beyond_length, misaligned}
+use Rattle.value.specs.Refusal.{through_constant, frame_gone, no_allocation, beyond_length, misaligned, number_of}
 use Rattle.value.proofs.Truth.{both_true, no}
 use Rattle.memory.specs.Memory.{Frame, Pointer, constant, local, Memory, stands, divides, access, written, write_at, write_bytes, live_pointer, live_list}
 use Rattle.memory.specs.Memory as M
@@ -19,7 +21,6 @@ use Rattle.memory.specs.Tables.{Tables, pointer_at, ranked_of, standing_of, flag
 use Rattle.memory.specs.View.{tab, frame_in, pointer_in, view, live_in}
 use Rattle.memory.specs.declared.PointerRecord.{PointerRecord}
 use Rattle.memory.specs.declared.LiveRecord.{LiveRecord}
-use Rattle.memory.specs.declared.Outcome.TheVariants as outcome
 use Rattle.memory.proofs.Every.{by_test}
 use Rattle.memory.proofs.Tab.{tab-same}
 use Rattle.memory.proofs.Facts.{Sound, ready_test}
@@ -120,7 +121,7 @@ module _ (t : Tables) (so : Sound t) (l f a o : List ℕ)
   slices = filled_of t.registers.depth n t.frames t.pointers l f a o
 
   -- with room for all pointers the list is made
-  pub listed-is : ((listed_of t l f a o).answer ≡ outcome.Done) × ((listed_of t l f a o).slices ≡ slices)
+  pub listed-is : ((listed_of t l f a o).answer ≡ (Ok tt)) × ((listed_of t l f a o).slices ≡ slices)
   unfolding listed_of
   listed-is = let r = ready_test _ _ _ _ _ _ so.ready in (simp (r, room), simp (r, room))
 
@@ -143,25 +144,25 @@ module _ (t : Tables) (so : Sound t) (l f a o : List ℕ)
 -- ---- what live means
 
 -- a refusal by 25 to 28
-abbrev pub Early : ℕ → Type 0
-Early r = (25 ≤ r) × (r ≤ 28)
+abbrev pub Early : Refusal → Type 0
+Early r = (25 ≤ number_of r) × (number_of r ≤ 28)
 
 pub record Refused (A : Type 0) (a : Answer A) : Type 0 where
-  pub number : ℕ
-  pub is : a ≡ refused number
-  pub early : Early number
+  pub why : Refusal
+  pub is : a ≡ refused why
+  pub early : Early why
 
-same_number : {A : Type 0} (n r : ℕ) → ◌≡◌ {A = Answer A} (refused n) (refused r) → n ≡ r
+same_number : {A : Type 0} (n : Refusal) (r : Refusal) → ◌≡◌ {A = Answer A} (refused n) (refused r) → n ≡ r
 same_number n r e = cc
 
-never_ok : {A : Type 0} (a : A) (r : ℕ) → ◌≡◌ {A = Answer A} (ok a) (refused r) → ⊥
+never_ok : {A : Type 0} (a : A) (r : Refusal) → ◌≡◌ {A = Answer A} (ok a) (refused r) → ⊥
 never_ok a r e = let z : ◌≡◌ {A = ℕ} 0 1 = cc in omega arith
 
-later : {A : Type 0} (x y : Bool) (a : A) (r : ℕ) → need x beyond_length (need y misaligned (ok a)) ≡ refused r → Early r → ⊥
+later : {A : Type 0} (x y : Bool) (a : A) (r : Refusal) → ◌≡◌ {A = Answer A} (need x beyond_length (need y misaligned (ok a))) (refused r) → Early r → ⊥
 unfolding need
 later true true a r e h = never_ok a r e
-later true false a r e h = let k = same_number misaligned r e in let u = h.1 in omega arith
-later false y a r e h = let k = same_number beyond_length r e in let u = h.1 in omega arith
+later true false a r e h = let k = ap number_of (same_number misaligned r e) in let u = h.1 in omega arith
+later false y a r e h = let k = ap number_of (same_number beyond_length r e) in let u = h.1 in omega arith
 
 both_false : (x y : Bool) → (x && y) ≡ false → x ≡ true → y ≡ false
 both_false true y e h = e
@@ -169,7 +170,7 @@ both_false false y e h = let z : ◌≡◌ {A = ℕ} 0 1 = cc in absurd (omega a
 
 module _ (m : Memory) where
   -- of a live pointer no write is refused by 25 to 28, whatever its bytes
-  live-local : (i f j o : ℕ) (bytes : List ℕ) (r : ℕ) → (live_pointer m.frames (local i f j o)).live ≡ true
+  live-local : (i f j o : ℕ) (bytes : List ℕ) (r : Refusal) → (live_pointer m.frames (local i f j o)).live ≡ true
       → write_at m (local i f j o) bytes ≡ refused r → Early r → ⊥
   unfolding live_pointer write_at access need
   live-local i f j o bytes r l e h =
@@ -181,8 +182,8 @@ module _ (m : Memory) where
   unfolding live_pointer write_at access need
   dead_local i f j o bytes l =
       by_test (stands m.frames i f)
-      (λ s. let c = both_false _ _ l s in record { number = no_allocation; is = simp (s, c); early = (omega arith, omega arith) })
-      (λ s. record { number = frame_gone; is = simp s; early = (omega arith, omega arith) })
+      (λ s. let c = both_false _ _ l s in record { why = no_allocation; is = simp (s, c); early = (omega arith, omega arith) })
+      (λ s. record { why = frame_gone; is = simp s; early = (omega arith, omega arith) })
 
   not_live : (k : ℕ) → (live_pointer m.frames (constant k)).live ≡ true → ⊥
   unfolding live_pointer
@@ -192,16 +193,16 @@ module _ (m : Memory) where
   unfolding write_at
   no_write k bytes = refl
 
-  live_at : (q : Pointer) (bytes : List ℕ) (r : ℕ) → (live_pointer m.frames q).live ≡ true → write_at m q bytes ≡ refused r → Early r → ⊥
+  live_at : (q : Pointer) (bytes : List ℕ) (r : Refusal) → (live_pointer m.frames q).live ≡ true → write_at m q bytes ≡ refused r → Early r → ⊥
   live_at (constant k) bytes r l e h = not_live k l
   live_at (local i f j o) bytes r l e h = live-local i f j o bytes r l e h
 
   dead_at : (q : Pointer) (bytes : List ℕ) → (live_pointer m.frames q).live ≡ false → Refused Memory (write_at m q bytes)
-  dead_at (constant k) bytes l = record { number = through_constant; is = no_write k bytes; early = (omega arith, omega arith) }
+  dead_at (constant k) bytes l = record { why = through_constant; is = no_write k bytes; early = (omega arith, omega arith) }
   dead_at (local i f j o) bytes l = dead_local i f j o bytes l
 
   -- Live is true exactly when a write of any size through that number is refused with none of 25 to 28.
-  pub live_means : (p : ℕ) → p < length m.pointers → (bytes : List ℕ) (r : ℕ) → (live_pointer m.frames (M.pointer_at m p)).live ≡ true
+  pub live_means : (p : ℕ) → p < length m.pointers → (bytes : List ℕ) (r : Refusal) → (live_pointer m.frames (M.pointer_at m p)).live ≡ true
       → write_bytes m p bytes ≡ refused r → Early r → ⊥
   unfolding write_bytes need
   live_means p h bytes r l e k = live_at (M.pointer_at m p) bytes r l (simp (lt-ltb _ _ h) at e) k

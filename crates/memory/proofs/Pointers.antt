@@ -1,4 +1,5 @@
 -- Pointers through the view: a record that is put is read back, and those below it stay. Offset and constant address.
+use Rattle.std.specs.Prelude.{Result, Ok, Err}
 use mathlib.Core.Path.{◌≡◌, refl, ap, ◌∙◌, sym}
 use mathlib.Core.List.{List, [], ◌∷◌, ◌++◌}
 use mathlib.Core.Bool.{true, false}
@@ -8,6 +9,7 @@ use lib.ListN.{get_or, set, length, length-set}
 use lib.Seq.{get_or-set_same, get_or-set_other}
 use lib.Dec.{ltb, leb, eqb}
 use borrow.Author.Tests.{ltb-true, ltb-false, leb-true, leb-false, lt-ltb, le-ltb, eq-eqb}
+use Rattle.value.specs.declared.refusal.Refusal.{Refusal}
 use Rattle.value.specs.Answer.{ok, refused, need, pick}
 use Rattle.value.specs.Refusal.{not_given_out, through_constant, offset_too_large, pointers_full}
 use Rattle.memory.specs.Memory.{Pointer, constant, local, with_pointer, constant_address, offset_at, offset_by}
@@ -16,8 +18,8 @@ use Rattle.memory.specs.Tables.{Tables, tables, both, more, pointer, pointer_at,
 use Rattle.memory.specs.View.{tab, pointer_in, view, after_pointer}
 use Rattle.memory.specs.declared.Registers.{Registers}
 use Rattle.memory.specs.declared.PointerRecord.{PointerRecord}
-use Rattle.memory.specs.declared.Given.TheVariants as given
 use Rattle.memory.proofs.Every.{by_test}
+use Rattle.memory.proofs.Laws.{never, ok_same}
 use Rattle.memory.proofs.Tab.{tab-more, length-tab, tab-same, get_d_tab}
 use Rattle.memory.proofs.Facts.{Sound}
 use Rattle.memory.proofs.Frames.{memory-same}
@@ -39,8 +41,8 @@ pub local-ok : (i f j o : ℕ) → pointer_ok (pointer 0 i f j o) ≡ true
 unfolding pointer_ok
 local-ok i f j o = refl
 
-pub never_given : (n p : ℕ) (m : Registers) → given.Refused n ≡ given.Made p m → ⊥
-never_given n p m e = let z : ◌≡◌ {A = ℕ} 0 1 = cc in omega arith
+pub never_given : (n : Refusal) (p : ℕ) (m : Registers) → ◌≡◌ {A = Result (ℕ × Registers) Refusal} (Err n) (Ok (p, m)) → ⊥
+never_given n p m e = never n (p, m) e
 
 pub pointer_other : (l : List ℕ) (p : ℕ) (v : PointerRecord) (q : ℕ) → q < p → pointer_at (pointer_set l p v) q ≡ pointer_at l q
 unfolding pointer_at
@@ -171,8 +173,8 @@ module _ (t : Tables) (so : Sound t) where
 
   offset-local : (p by : ℕ) → by < 2 ^ 64 → p < t.registers.pointers → (q : PointerRecord) → eqb q.kind 0 ≡ true
       → after_pointer t
-      (pick (ltb (18446744073709551615 - by) q.offset) (both (given.Refused offset_too_large) t.pointers)
-      (pick (leb 4096 t.registers.pointers) (both (given.Refused pointers_full) t.pointers) (handed t.registers (moved_on q by) t.pointers)))
+      (pick (ltb (18446744073709551615 - by) q.offset) (both (Err offset_too_large) t.pointers)
+      (pick (leb 4096 t.registers.pointers) (both (Err pointers_full) t.pointers) (handed t.registers (moved_on q by) t.pointers)))
       ≡ offset_at (view t) (pointer_in q) by
   unfolding after_pointer offset_at need
   offset-local p by small h q k =
@@ -213,18 +215,17 @@ module _ (t : Tables) (so : Sound t) where
       (λ k. simp (z, y, u, g, k) (offset-local p by small h (pointer_at t.pointers p) k ∙ sym (ap (λ q. offset_at (view t) q by) (pointer-seen p h))))
       (λ k. simp (z, y, u, g, k) (sym (ap (λ q. offset_at (view t) q by) (pointer-seen p h ∙ seen-constant (pointer_at t.pointers p) k) ∙ offset-constant _ by))))
 
-  pub address-sound : (k p : ℕ) (m : Registers) → (address_of t.registers k t.pointers).answer ≡ given.Made p m
+  pub address-sound : (k p : ℕ) (m : Registers) → (address_of t.registers k t.pointers).answer ≡ Ok (p, m)
       → Sound (tables m t.store t.frames t.bounds (address_of t.registers k t.pointers).table)
   unfolding address_of
   address-sound k p m e =
       let z = eq-eqb _ _ so.ready.pointers in
       by_test (leb 4096 t.registers.pointers)
       (λ u. absurd (never_given pointers_full p m (simp (z, u) at e)))
-      (λ u. let f : given.Made t.registers.pointers (more t.registers) ≡ given.Made p m = simp (z, u) at e in
-      let g : more t.registers ≡ m = cc in
+      (λ u. let g : more t.registers ≡ m = ap (λ x. x.1) (ok_same (t.registers.pointers, more t.registers) (p, m) (simp (z, u) at e)) in
       simp (z, u) (rw g at (given-kept (pointer 1 k 0 0 0) (leb-false _ _ u) (constant-ok k))))
 
-  pub offset-sound : (p by n : ℕ) (m : Registers) → (offset_of t.registers p by t.pointers).answer ≡ given.Made n m
+  pub offset-sound : (p by n : ℕ) (m : Registers) → (offset_of t.registers p by t.pointers).answer ≡ Ok (n, m)
       → Sound (tables m t.store t.frames t.bounds (offset_of t.registers p by t.pointers).table)
   unfolding offset_of
   offset-sound p by n m e =
@@ -238,23 +239,21 @@ module _ (t : Tables) (so : Sound t) where
       (λ v. absurd (never_given offset_too_large n m (simp (z, y, u, k, v) at e)))
       (λ v. by_test (leb 4096 t.registers.pointers)
       (λ w. absurd (never_given pointers_full n m (simp (z, y, u, k, v, w) at e)))
-      (λ w. let f : given.Made t.registers.pointers (more t.registers) ≡ given.Made n m = simp (z, y, u, k, v, w) at e in
-      let g : more t.registers ≡ m = cc in
+      (λ w. let g : more t.registers ≡ m = ap (λ x. x.1) (ok_same (t.registers.pointers, more t.registers) (n, m) (simp (z, y, u, k, v, w) at e)) in
       simp (z, y, u, k, v, w) (rw g at (given-kept (pointer 0 q.index q.id q.allocation (q.offset + by)) (leb-false _ _ w) (local-ok _ _ _ _))))))
       (λ k. absurd (never_given through_constant n m (simp (z, y, u, k) at e))))
 
   -- The number given is that of pointers before.
-  pub address-number : (k p : ℕ) (m : Registers) → (address_of t.registers k t.pointers).answer ≡ given.Made p m → p ≡ length (view t).pointers
+  pub address-number : (k p : ℕ) (m : Registers) → (address_of t.registers k t.pointers).answer ≡ Ok (p, m) → p ≡ length (view t).pointers
   unfolding address_of
   address-number k p m e =
       let z = eq-eqb _ _ so.ready.pointers in
       by_test (leb 4096 t.registers.pointers)
       (λ u. absurd (never_given pointers_full p m (simp (z, u) at e)))
-      (λ u. let f : given.Made t.registers.pointers (more t.registers) ≡ given.Made p m = simp (z, u) at e in
-      let g : p ≡ t.registers.pointers = cc in
-      g ∙ sym count-seen)
+      (λ u. let g : t.registers.pointers ≡ p = ap (λ x. x.0) (ok_same (t.registers.pointers, more t.registers) (p, m) (simp (z, u) at e)) in
+      sym g ∙ sym count-seen)
 
-  pub offset-number : (p by n : ℕ) (m : Registers) → (offset_of t.registers p by t.pointers).answer ≡ given.Made n m → n ≡ length (view t).pointers
+  pub offset-number : (p by n : ℕ) (m : Registers) → (offset_of t.registers p by t.pointers).answer ≡ Ok (n, m) → n ≡ length (view t).pointers
   unfolding offset_of
   offset-number p by n m e =
       let z = eq-eqb _ _ so.ready.pointers in
@@ -267,7 +266,6 @@ module _ (t : Tables) (so : Sound t) where
       (λ v. absurd (never_given offset_too_large n m (simp (z, y, u, k, v) at e)))
       (λ v. by_test (leb 4096 t.registers.pointers)
       (λ w. absurd (never_given pointers_full n m (simp (z, y, u, k, v, w) at e)))
-      (λ w. let f : given.Made t.registers.pointers (more t.registers) ≡ given.Made n m = simp (z, y, u, k, v, w) at e in
-      let g : n ≡ t.registers.pointers = cc in
-      g ∙ sym count-seen)))
+      (λ w. let g : t.registers.pointers ≡ n = ap (λ x. x.0) (ok_same (t.registers.pointers, more t.registers) (n, m) (simp (z, y, u, k, v, w) at e)) in
+      sym g ∙ sym count-seen)))
       (λ k. absurd (never_given through_constant n m (simp (z, y, u, k) at e))))

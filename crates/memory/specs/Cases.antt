@@ -1,7 +1,7 @@
 -- P4, P5 and the access parts of P7 and P10, by their numbers, as one list that is computed: what each asks of the memory, and what it must answer.
 use Rattle.std.specs.Prelude.{ℕ, Bool, false, List, [], ◌∷◌, ◌++◌, replicate, T, eqb}
 use Rattle.std.proofs.Math.Option.{Option, none, some}
-use Rattle.value.specs.Refusal.{frame_gone, beyond_length, misaligned, not_bool, not_sound}
+use Rattle.value.specs.Refusal.{frame_gone, beyond_length, misaligned, not_bool, not_sound, number_of}
 use Rattle.value.specs.Answer.{Answer, ok, refused, need, ◌>>=◌}
 use Rattle.value.specs.Cases.{Case, all_hold}
 use Rattle.value.specs.Value.{IrType, bytes_of, kind_of, tag, size, le_bytes, le_number, from_bytes}
@@ -14,7 +14,7 @@ unfoldable pub same_answer : Answer (List ℕ) → Answer (List ℕ) → Bool
 same_answer (ok a) (ok b) = same_bytes a b
 same_answer (ok a) (refused n) = false
 same_answer (refused m) (ok b) = false
-same_answer (refused m) (refused n) = eqb m n
+same_answer (refused m) (refused n) = eqb (number_of m) (number_of n)
 
 -- of one of P1 to P11: what is asked, and what it must answer
 abbrev pub gives : (number : ℕ) → Answer (List ℕ) → Answer (List ℕ) → Case

@@ -1,24 +1,16 @@
 -- What the code does to its registers and to each element of the lent tables, stale ones included. `View` joins this to the memory a reader believes.
-use Rattle.std.specs.Prelude.{List, Bool, true, not, ◌&&◌, ℕ, zero, suc, ◌+◌, ◌-◌, ◌*◌, ◌/◌, ◌%◌, get_or, set, length, take, drop, replicate, ltb, leb, eqb}
+use Rattle.std.specs.Prelude.{List, Bool, true, not, ◌&&◌, ℕ, zero, suc, ◌+◌, ◌-◌, ◌*◌, ◌/◌, ◌%◌, get_or, set, length, take, drop, replicate, ltb, leb, eqb, Result, Ok, Err, Option, Some, None, ⊤}
 use Rattle.std.proofs.Math.Seq.{paste}
+use Rattle.value.specs.declared.refusal.Refusal.{Refusal}
 use Rattle.value.specs.Answer.{pick}
 use Rattle.value.specs.Refusal.{not_sound, short_table, not_given_out, through_constant, frame_gone, no_allocation, beyond_length, misaligned, offset_too_large, frames_full, ids_spent, allocations_full, bytes_full, pointers_full, no_constant}
 use Rattle.memory.specs.declared.Registers.{Registers}
 use Rattle.memory.specs.declared.PointerRecord.{PointerRecord}
 use Rattle.value.specs.Tags.{kind_at, held}
 use Rattle.memory.specs.declared.LiveRecord.{LiveRecord}
-use Rattle.memory.specs.declared.Moved.{Moved}
-use Rattle.memory.specs.declared.Moved.TheVariants as moved
 use Rattle.memory.specs.declared.Popped.{Popped}
-use Rattle.memory.specs.declared.Popped.TheVariants as popped
-use Rattle.memory.specs.declared.Given.{Given}
-use Rattle.memory.specs.declared.Given.TheVariants as given
-use Rattle.memory.specs.declared.Place.{Place}
-use Rattle.memory.specs.declared.Place.TheVariants as place
 use Rattle.memory.specs.declared.Source.{Source}
 use Rattle.memory.specs.declared.Source.TheVariants as source
-use Rattle.memory.specs.declared.Outcome.{Outcome}
-use Rattle.memory.specs.declared.Outcome.TheVariants as outcome
 
 -- ---- the tables
 
@@ -50,25 +42,25 @@ both a l = record { answer = a; table = l }
 
 -- an answer, with the memory's tables
 pub record Out : Type 0 where
-  pub answer : Given
+  pub answer : Result (ℕ × Registers) Refusal
   pub store : List ℕ
   pub frames : List ℕ
   pub bounds : List ℕ
   pub pointers : List ℕ
 
-abbrev pub out : Given → (store frames bounds pointers : List ℕ) → Out
+abbrev pub out : (Result (ℕ × Registers) Refusal) → (store frames bounds pointers : List ℕ) → Out
 out a s f b p = record { answer = a; store = s; frames = f; bounds = b; pointers = p }
 
 -- an answer, with all tables
 pub record All : Type 0 where
-  pub answer : Moved
+  pub answer : Result Registers Refusal
   pub store : List ℕ
   pub frames : List ℕ
   pub bounds : List ℕ
   pub pointers : List ℕ
   pub variables : List ℕ
 
-abbrev pub all : Moved → (store frames bounds pointers variables : List ℕ) → All
+abbrev pub all : (Result Registers Refusal) → (store frames bounds pointers variables : List ℕ) → All
 all a s f b p v = record { answer = a; store = s; frames = f; bounds = b; pointers = p; variables = v }
 
 -- the tables have their lengths, and depth and pointers lie in them
@@ -114,14 +106,14 @@ pointer_set l p v =
 -- every element is 0: a root frame with id 0, return place 0, no return variable and no allocation
 abbrev pub cleared : (store frames bounds pointers variables : List ℕ) → All
 cleared s f b p v =
-    all (moved.Done (registers 0 0 1 1 0))
+    all (Ok (registers 0 0 1 1 0))
     (replicate (length s) 0) (replicate (length f) 0) (replicate (length b) 0) (replicate (length p) 0) (replicate (length v) 0)
 
 unfoldable pub fresh_of : (store frames bounds pointers variables : List ℕ) → All
 fresh_of s f b p v =
     pick (ready (tables (registers 0 0 1 1 0) s f b p))
-    (pick (eqb (length v) 512) (cleared s f b p v) (all (moved.Refused not_sound) s f b p v))
-    (all (moved.Refused not_sound) s f b p v)
+    (pick (eqb (length v) 512) (cleared s f b p v) (all (Err not_sound) s f b p v))
+    (all (Err not_sound) s f b p v)
 
 -- ---- frames
 
@@ -130,25 +122,28 @@ abbrev pub frame_set : List ℕ → (d id place variable : ℕ) → List ℕ
 frame_set l d id place variable =
     set (set (set (set l (d * 4) id) (d * 4 + 1) place) (d * 4 + 2) variable) (d * 4 + 7) (get_or l (d * 4 + 3) 0)
 
-unfoldable pub pushed_of : Registers → (place variable : ℕ) → List ℕ → Both Moved
+unfoldable pub pushed_of : Registers → (place variable : ℕ) → List ℕ → Both (Result Registers Refusal)
 pushed_of m place variable l =
     pick (eqb (length l) 260)
-    (pick (leb 64 m.depth) (both (moved.Refused frames_full) l)
-    (pick (leb 4294967295 m.counter) (both (moved.Refused ids_spent) l)
-    (both (moved.Done (registers m.running m.next (m.counter + 1) (m.depth + 1) m.pointers))
+    (pick (leb 64 m.depth) (both (Err frames_full) l)
+    (pick (leb 4294967295 m.counter) (both (Err ids_spent) l)
+    (both (Ok (registers m.running m.next (m.counter + 1) (m.depth + 1) m.pointers))
     (frame_set l m.depth m.counter place variable))))
-    (both (moved.Refused not_sound) l)
+    (both (Err not_sound) l)
 
 abbrev pub lowered : Registers → Registers
 lowered m = registers m.running m.next m.counter (m.depth - 1) m.pointers
 
-unfoldable pub popped_of : Registers → List ℕ → Popped
+abbrev pub popped : (place variable : ℕ) → Registers → Popped
+popped p v m = record { place = p; variable = v; registers = m }
+
+unfoldable pub popped_of : Registers → List ℕ → Result (Option Popped) Refusal
 popped_of m l =
     pick (eqb (length l) 260)
-    (pick (ltb 64 m.depth) (popped.Refused not_sound)
-    (pick (leb m.depth 1) popped.Root
-    (popped.Frame (get_or l (m.depth * 4 - 3) 0) (get_or l (m.depth * 4 - 2) 0) (lowered m))))
-    (popped.Refused not_sound)
+    (pick (ltb 64 m.depth) (Err not_sound)
+    (pick (leb m.depth 1) (Ok None)
+    (Ok (Some (popped (get_or l (m.depth * 4 - 3) 0) (get_or l (m.depth * 4 - 2) 0) (lowered m))))))
+    (Err not_sound)
 
 -- ---- allocations
 
@@ -157,22 +152,30 @@ unfoldable pub zeroed : List ℕ → (from n : ℕ) → List ℕ
 zeroed s from zero = s
 zeroed s from (suc n) = set (zeroed s from n) (from + n) 0
 
-unfoldable pub room_of : (used size given : ℕ) → ℕ
-room_of u size p = pick (ltb 32768 u) bytes_full (pick (ltb (32768 - u) size) bytes_full (pick (leb 4096 p) pointers_full 0))
+unfoldable pub room_of : (used size given : ℕ) → Result ⊤ Refusal
+room_of u size p =
+    pick (ltb 32768 u) (Err bytes_full)
+    (pick (ltb (32768 - u) size) (Err bytes_full)
+    (pick (leb 4096 p) (Err pointers_full) (Ok tt)))
 
 abbrev pub more : Registers → Registers
 more m = with_pointers m (m.pointers + 1)
 
 abbrev pub made : Tables → ℕ → Out
 made t size =
-    out (given.Made t.registers.pointers (more t.registers))
+    out (Ok (t.registers.pointers, more t.registers))
     (zeroed t.store (bound t (live t)) size)
     (set t.frames (t.registers.depth * 4 + 3) (live t + 1))
     (set t.bounds (live t + 1) (bound t (live t) + size))
     (pointer_set t.pointers t.registers.pointers (pointer 0 (t.registers.depth - 1) (top_id t) (live t - top_first t) 0))
 
-abbrev pub unmade : Tables → ℕ → Out
-unmade t n = out (given.Refused n) t.store t.frames t.bounds t.pointers
+abbrev pub unmade : Tables → Refusal → Out
+unmade t n = out (Err n) t.store t.frames t.bounds t.pointers
+
+-- where there is room
+abbrev pub made_where : Tables → (size : ℕ) → Result ⊤ Refusal → Out
+made_where t size (Ok u) = made t size
+made_where t size (Err n) = unmade t n
 
 unfoldable pub allocated_of : Tables → (size : ℕ) → Out
 allocated_of t size =
@@ -180,8 +183,7 @@ allocated_of t size =
     (pick (eqb t.registers.depth 0) (unmade t not_sound)
     (pick (ltb (live t) (top_first t)) (unmade t not_sound)
     (pick (leb 512 (live t)) (unmade t allocations_full)
-    (pick (eqb (room_of (bound t (live t)) size t.registers.pointers) 0) (made t size)
-    (unmade t (room_of (bound t (live t)) size t.registers.pointers))))))
+    (made_where t size (room_of (bound t (live t)) size t.registers.pointers)))))
     (unmade t not_sound)
 
 -- ---- accesses
@@ -189,135 +191,135 @@ allocated_of t size =
 unfoldable pub aligned_of : (offset size : ℕ) → Bool
 aligned_of offset size = pick (eqb size 0) (eqb offset 0) (eqb (offset % size) 0)
 
-unfoldable pub within_of : (start stop offset size : ℕ) → Place
+unfoldable pub within_of : (start stop offset size : ℕ) → Result ℕ Refusal
 within_of start stop offset n =
-    pick (ltb 32768 stop) (place.Refused beyond_length)
-    (pick (ltb stop start) (place.Refused beyond_length)
-    (pick (ltb (stop - start) n) (place.Refused beyond_length)
-    (pick (ltb (stop - start - n) offset) (place.Refused beyond_length)
-    (pick (aligned_of offset n) (place.At (start + offset)) (place.Refused misaligned)))))
+    pick (ltb 32768 stop) (Err beyond_length)
+    (pick (ltb stop start) (Err beyond_length)
+    (pick (ltb (stop - start) n) (Err beyond_length)
+    (pick (ltb (stop - start - n) offset) (Err beyond_length)
+    (pick (aligned_of offset n) (Ok (start + offset)) (Err misaligned)))))
 
 -- the rank of frame f's allocation a among all
-unfoldable pub ranked_of : List ℕ → (f a : ℕ) → Place
+unfoldable pub ranked_of : List ℕ → (f a : ℕ) → Result ℕ Refusal
 ranked_of fr f a =
-    pick (ltb 512 (frame_word fr f 7)) (place.Refused no_allocation)
-    (pick (ltb (frame_word fr f 7) (frame_word fr f 3)) (place.Refused no_allocation)
-    (pick (leb (frame_word fr f 7 - frame_word fr f 3) a) (place.Refused no_allocation) (place.At (frame_word fr f 3 + a))))
+    pick (ltb 512 (frame_word fr f 7)) (Err no_allocation)
+    (pick (ltb (frame_word fr f 7) (frame_word fr f 3)) (Err no_allocation)
+    (pick (leb (frame_word fr f 7 - frame_word fr f 3) a) (Err no_allocation) (Ok (frame_word fr f 3 + a))))
 
-unfoldable pub standing_of : (depth : ℕ) → List ℕ → PointerRecord → Place
+unfoldable pub standing_of : (depth : ℕ) → List ℕ → PointerRecord → Result ℕ Refusal
 standing_of d fr q =
-    pick (leb d q.index) (place.Refused frame_gone)
-    (pick (eqb (get_or fr (q.index * 4) 0) q.id) (ranked_of fr q.index q.allocation) (place.Refused frame_gone))
+    pick (leb d q.index) (Err frame_gone)
+    (pick (eqb (get_or fr (q.index * 4) 0) q.id) (ranked_of fr q.index q.allocation) (Err frame_gone))
 
 -- the same for any depth and any frames: 10 first
-unfoldable pub stands_of : (depth : ℕ) → List ℕ → PointerRecord → Place
+unfoldable pub stands_of : (depth : ℕ) → List ℕ → PointerRecord → Result ℕ Refusal
 stands_of d fr q =
     pick (eqb (length fr) 260)
-    (pick (ltb 64 d) (place.Refused not_sound) (standing_of d fr q))
-    (place.Refused not_sound)
+    (pick (ltb 64 d) (Err not_sound) (standing_of d fr q))
+    (Err not_sound)
 
-abbrev pub from_store : Place → Source
-from_store (place.At at) = source.Local at
-from_store (place.Refused n) = source.Refused n
+abbrev pub from_store : (Result ℕ Refusal) → Result Source Refusal
+from_store (Ok at) = Ok (source.Local at)
+from_store (Err n) = Err n
 
-abbrev pub accessed_at : Place → List ℕ → (offset size : ℕ) → Source
-accessed_at (place.At k) bo offset n = from_store (within_of (get_or bo k 0) (get_or bo (k + 1) 0) offset n)
-accessed_at (place.Refused n') bo offset n = source.Refused n'
+abbrev pub accessed_at : (Result ℕ Refusal) → List ℕ → (offset size : ℕ) → Result Source Refusal
+accessed_at (Ok k) bo offset n = from_store (within_of (get_or bo k 0) (get_or bo (k + 1) 0) offset n)
+accessed_at (Err n') bo offset n = Err n'
 
-unfoldable pub local_of : (depth : ℕ) → (frames bounds : List ℕ) → PointerRecord → (size : ℕ) → Source
+unfoldable pub local_of : (depth : ℕ) → (frames bounds : List ℕ) → PointerRecord → (size : ℕ) → Result Source Refusal
 local_of d fr bo q n = accessed_at (standing_of d fr q) bo q.offset n
 
-unfoldable pub read_access_of : Tables → (p size : ℕ) → Source
+unfoldable pub read_access_of : Tables → (p size : ℕ) → Result Source Refusal
 read_access_of t p n =
     pick (ready t)
-    (pick (leb t.registers.pointers p) (source.Refused not_given_out)
+    (pick (leb t.registers.pointers p) (Err not_given_out)
     (pick (eqb (pointer_at t.pointers p).kind 0)
     (local_of t.registers.depth t.frames t.bounds (pointer_at t.pointers p) n)
-    (source.Constant (pointer_at t.pointers p).index)))
-    (source.Refused not_sound)
+    (Ok (source.Constant (pointer_at t.pointers p).index))))
+    (Err not_sound)
 
 -- a write goes through no constant
-abbrev pub for_write : Source → Place
-for_write (source.Local at) = place.At at
-for_write (source.Constant k) = place.Refused through_constant
-for_write (source.Refused n) = place.Refused n
+abbrev pub for_write : (Result Source Refusal) → Result ℕ Refusal
+for_write (Ok (source.Local at)) = Ok at
+for_write (Ok (source.Constant k)) = Err through_constant
+for_write (Err n) = Err n
 
-unfoldable pub write_access_of : Tables → (p size : ℕ) → Place
+unfoldable pub write_access_of : Tables → (p size : ℕ) → Result ℕ Refusal
 write_access_of t p n = for_write (read_access_of t p n)
 
-abbrev pub put_at : Place → (store bytes : List ℕ) → Both Outcome
-put_at (place.At at) store bytes = both outcome.Done (paste store at bytes (length bytes))
-put_at (place.Refused n) store bytes = both (outcome.Refused n) store
+abbrev pub put_at : (Result ℕ Refusal) → (store bytes : List ℕ) → Both (Result ⊤ Refusal)
+put_at (Ok at) store bytes = both (Ok tt) (paste store at bytes (length bytes))
+put_at (Err n) store bytes = both (Err n) store
 
-unfoldable pub written_of : Tables → ℕ → (bytes : List ℕ) → Both Outcome
+unfoldable pub written_of : Tables → ℕ → (bytes : List ℕ) → Both (Result ⊤ Refusal)
 written_of t p bytes = put_at (write_access_of t p (length bytes)) t.store bytes
 
 -- a constant's record of `extents` has its start and its length in `raw`: where its first bytes stand
-unfoldable pub constant_access_of : (k size : ℕ) → (raw extents : List ℕ) → Place
+unfoldable pub constant_access_of : (k size : ℕ) → (raw extents : List ℕ) → Result ℕ Refusal
 constant_access_of k n raw extents =
-    pick (leb (length extents / 2) k) (place.Refused no_constant)
-    (pick (ltb (length raw) (get_or extents (k * 2) 0)) (place.Refused no_constant)
-    (pick (ltb (length raw - get_or extents (k * 2) 0) (get_or extents (k * 2 + 1) 0)) (place.Refused no_constant)
-    (pick (ltb (get_or extents (k * 2 + 1) 0) n) (place.Refused beyond_length) (place.At (get_or extents (k * 2) 0)))))
+    pick (leb (length extents / 2) k) (Err no_constant)
+    (pick (ltb (length raw) (get_or extents (k * 2) 0)) (Err no_constant)
+    (pick (ltb (length raw - get_or extents (k * 2) 0) (get_or extents (k * 2 + 1) 0)) (Err no_constant)
+    (pick (ltb (get_or extents (k * 2 + 1) 0) n) (Err beyond_length) (Ok (get_or extents (k * 2) 0)))))
 
-abbrev pub taken_at : Place → (bytes raw : List ℕ) → Both Outcome
-taken_at (place.At at) bytes raw = both outcome.Done (take (length bytes) (drop at raw))
-taken_at (place.Refused n) bytes raw = both (outcome.Refused n) bytes
+abbrev pub taken_at : (Result ℕ Refusal) → (bytes raw : List ℕ) → Both (Result ⊤ Refusal)
+taken_at (Ok at) bytes raw = both (Ok tt) (take (length bytes) (drop at raw))
+taken_at (Err n) bytes raw = both (Err n) bytes
 
-unfoldable pub constant_of : ℕ → (bytes raw extents : List ℕ) → Both Outcome
+unfoldable pub constant_of : ℕ → (bytes raw extents : List ℕ) → Both (Result ⊤ Refusal)
 constant_of k bytes raw extents = taken_at (constant_access_of k (length bytes) raw extents) bytes raw
 
-abbrev pub get_at : Source → (store bytes raw extents : List ℕ) → Both Outcome
-get_at (source.Local at) store bytes raw extents = both outcome.Done (take (length bytes) (drop at store))
-get_at (source.Constant k) store bytes raw extents = constant_of k bytes raw extents
-get_at (source.Refused n) store bytes raw extents = both (outcome.Refused n) bytes
+abbrev pub get_at : (Result Source Refusal) → (store bytes raw extents : List ℕ) → Both (Result ⊤ Refusal)
+get_at (Ok (source.Local at)) store bytes raw extents = both (Ok tt) (take (length bytes) (drop at store))
+get_at (Ok (source.Constant k)) store bytes raw extents = constant_of k bytes raw extents
+get_at (Err n) store bytes raw extents = both (Err n) bytes
 
-unfoldable pub read_of : Tables → ℕ → (bytes raw extents : List ℕ) → Both Outcome
+unfoldable pub read_of : Tables → ℕ → (bytes raw extents : List ℕ) → Both (Result ⊤ Refusal)
 read_of t p bytes raw extents = get_at (read_access_of t p (length bytes)) t.store bytes raw extents
 
 -- what was read is written
-abbrev pub written_next : Tables → (to : ℕ) → Outcome → (bytes : List ℕ) → Both Outcome
-written_next t to outcome.Done bytes = written_of t to bytes
-written_next t to (outcome.Refused n) bytes = both (outcome.Refused n) t.store
+abbrev pub written_next : Tables → (to : ℕ) → (Result ⊤ Refusal) → (bytes : List ℕ) → Both (Result ⊤ Refusal)
+written_next t to (Ok u) bytes = written_of t to bytes
+written_next t to (Err n) bytes = both (Err n) t.store
 
-abbrev pub written_after : Tables → (to : ℕ) → Both Outcome → Both Outcome
+abbrev pub written_after : Tables → (to : ℕ) → Both (Result ⊤ Refusal) → Both (Result ⊤ Refusal)
 written_after t to r = written_next t to r.answer r.table
 
 -- "Copy checks its read in full, then its write; bytes as before the copy."
-unfoldable pub copied_of : Tables → (to from size : ℕ) → (raw extents : List ℕ) → Both Outcome
+unfoldable pub copied_of : Tables → (to from size : ℕ) → (raw extents : List ℕ) → Both (Result ⊤ Refusal)
 copied_of t to from n raw extents = written_after t to (read_of t from (replicate n 0) raw extents)
 
 -- ---- pointers
 
-abbrev pub handed : Registers → PointerRecord → List ℕ → Both Given
-handed m q l = both (given.Made m.pointers (more m)) (pointer_set l m.pointers q)
+abbrev pub handed : Registers → PointerRecord → List ℕ → Both (Result (ℕ × Registers) Refusal)
+handed m q l = both (Ok (m.pointers, more m)) (pointer_set l m.pointers q)
 
-unfoldable pub offset_of : Registers → (p by : ℕ) → List ℕ → Both Given
+unfoldable pub offset_of : Registers → (p by : ℕ) → List ℕ → Both (Result (ℕ × Registers) Refusal)
 offset_of m p by l =
     pick (eqb (length l) 20480)
-    (pick (ltb 4096 m.pointers) (both (given.Refused not_sound) l)
-    (pick (leb m.pointers p) (both (given.Refused not_given_out) l)
+    (pick (ltb 4096 m.pointers) (both (Err not_sound) l)
+    (pick (leb m.pointers p) (both (Err not_given_out) l)
     (pick (eqb (pointer_at l p).kind 0)
-    (pick (ltb (18446744073709551615 - by) (pointer_at l p).offset) (both (given.Refused offset_too_large) l)
-    (pick (leb 4096 m.pointers) (both (given.Refused pointers_full) l)
+    (pick (ltb (18446744073709551615 - by) (pointer_at l p).offset) (both (Err offset_too_large) l)
+    (pick (leb 4096 m.pointers) (both (Err pointers_full) l)
     (handed m (pointer 0 (pointer_at l p).index (pointer_at l p).id (pointer_at l p).allocation ((pointer_at l p).offset + by)) l)))
-    (both (given.Refused through_constant) l))))
-    (both (given.Refused not_sound) l)
+    (both (Err through_constant) l))))
+    (both (Err not_sound) l)
 
-unfoldable pub address_of : Registers → (k : ℕ) → List ℕ → Both Given
+unfoldable pub address_of : Registers → (k : ℕ) → List ℕ → Both (Result (ℕ × Registers) Refusal)
 address_of m k l =
     pick (eqb (length l) 20480)
-    (pick (leb 4096 m.pointers) (both (given.Refused pointers_full) l) (handed m (pointer 1 k 0 0 0) l))
-    (both (given.Refused not_sound) l)
+    (pick (leb 4096 m.pointers) (both (Err pointers_full) l) (handed m (pointer 1 k 0 0 0) l))
+    (both (Err not_sound) l)
 
 -- ---- the live list
 
 abbrev pub live_record : (live frame allocation offset : ℕ) → LiveRecord
 live_record l f a o = record { live = l; frame = f; allocation = a; offset = o }
 
-abbrev pub flag_of : Place → ℕ
-flag_of (place.At k) = 1
-flag_of (place.Refused n) = 0
+abbrev pub flag_of : (Result ℕ Refusal) → ℕ
+flag_of (Ok k) = 1
+flag_of (Err n) = 0
 
 unfoldable pub record_of : (depth : ℕ) → (frames : List ℕ) → PointerRecord → LiveRecord
 record_of d fr q =
@@ -347,10 +349,10 @@ filled_of d n fr ps l f a o =
 
 -- an answer, with the four slices
 pub record Listing : Type 0 where
-  pub answer : Outcome
+  pub answer : Result ⊤ Refusal
   pub slices : Columns
 
-abbrev pub listing : Outcome → (live frame allocation offset : List ℕ) → Listing
+abbrev pub listing : (Result ⊤ Refusal) → (live frame allocation offset : List ℕ) → Listing
 listing r l f a o = record { answer = r; slices = columns l f a o }
 
 unfoldable pub roomy_of : (n live frame allocation offset : ℕ) → Bool
@@ -360,9 +362,9 @@ unfoldable pub listed_of : Tables → (live frame allocation offset : List ℕ) 
 listed_of t l f a o =
     pick (ready t)
     (pick (roomy_of t.registers.pointers (length l) (length f) (length a) (length o))
-    (record { answer = outcome.Done; slices = filled_of t.registers.depth t.registers.pointers t.frames t.pointers l f a o })
-    (listing (outcome.Refused short_table) l f a o))
-    (listing (outcome.Refused not_sound) l f a o)
+    (record { answer = (Ok tt); slices = filled_of t.registers.depth t.registers.pointers t.frames t.pointers l f a o })
+    (listing (Err short_table) l f a o))
+    (listing (Err not_sound) l f a o)
 
 -- ---- a sound state
 

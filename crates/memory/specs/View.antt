@@ -1,6 +1,7 @@
 -- The tables as the memory a reader believes, and what an answer with the tables after it says in that memory's words.
-use Rattle.std.specs.Prelude.{ℕ, zero, suc, ◌+◌, ◌-◌, ◌*◌, ◌/◌, Bool, List, [], ◌∷◌, ◌++◌, get_or, length, take, drop, eqb}
+use Rattle.std.specs.Prelude.{ℕ, zero, suc, ◌+◌, ◌-◌, ◌*◌, ◌/◌, Bool, List, [], ◌∷◌, ◌++◌, get_or, length, take, drop, eqb, Result, Ok, Err, ⊤}
 use Rattle.std.proofs.Math.Option.{Option, none, some}
+use Rattle.value.specs.declared.refusal.Refusal.{Refusal}
 use Rattle.value.specs.Answer.{Answer, ok, refused, pick}
 use Rattle.value.specs.Value.{Value}
 use Rattle.memory.specs.Memory.{Back, Frame, Pointer, constant, local, Memory}
@@ -9,14 +10,9 @@ use Rattle.memory.specs.Stored.{stored_value}
 use Rattle.memory.specs.Tables.{Tables, tables, Both, Out, Columns, pointer_at}
 use Rattle.memory.specs.declared.Registers.{Registers}
 use Rattle.memory.specs.declared.PointerRecord.{PointerRecord}
-use Rattle.memory.specs.declared.Moved.{Moved}
-use Rattle.memory.specs.declared.Moved.TheVariants as moved
 use Rattle.memory.specs.declared.Popped.{Popped}
-use Rattle.memory.specs.declared.Popped.TheVariants as popped
-use Rattle.memory.specs.declared.Given.{Given}
-use Rattle.memory.specs.declared.Given.TheVariants as given
-use Rattle.memory.specs.declared.Outcome.{Outcome}
-use Rattle.memory.specs.declared.Outcome.TheVariants as outcome
+use Rattle.std.specs.Prelude as Code
+use Rattle.std.specs.Prelude.{Some, None}
 
 -- ---- the state
 
@@ -74,37 +70,37 @@ constants_in raw extents = tab (length extents / 2) (λ k. part raw (get_or exte
 
 -- ---- answers
 
-abbrev pub on_moved : Moved → (Registers → Memory) → Answer Memory
-on_moved (moved.Done m) f = ok (f m)
-on_moved (moved.Refused n) f = refused n
+abbrev pub on_moved : (Result Registers Refusal) → (Registers → Memory) → Answer Memory
+on_moved (Ok m) f = ok (f m)
+on_moved (Err n) f = refused n
 
-abbrev pub on_given : Given → (Registers → Memory) → Answer Memory
-on_given (given.Made p m) f = ok (f m)
-on_given (given.Refused n) f = refused n
+abbrev pub on_given : (Result (ℕ × Registers) Refusal) → (Registers → Memory) → Answer Memory
+on_given (Ok (p, m)) f = ok (f m)
+on_given (Err n) f = refused n
 
-abbrev pub on_outcome : {A : Type 0} → Outcome → A → Answer A
-on_outcome outcome.Done a = ok a
-on_outcome (outcome.Refused n) a = refused n
+abbrev pub on_outcome : {A : Type 0} → (Result ⊤ Refusal) → A → Answer A
+on_outcome (Ok u) a = ok a
+on_outcome (Err n) a = refused n
 
 -- each with the one table that changed, the others as in t
-unfoldable pub after_push : Tables → Both Moved → Answer Memory
+unfoldable pub after_push : Tables → Both (Result Registers Refusal) → Answer Memory
 after_push t b = on_moved b.answer (λ m. view (tables m t.store b.table t.bounds t.pointers))
 
-abbrev pub after_pop : Tables → Popped → Option (Back × Memory)
-after_pop t (popped.Frame p v m) = some (back_in p v, view (tables m t.store t.frames t.bounds t.pointers))
-after_pop t popped.Root = none
-after_pop t (popped.Refused n) = none
+abbrev pub after_pop : Tables → Result (Code.Option Popped) Refusal → Option (Back × Memory)
+after_pop t (Ok (Some p)) = some (back_in p.place p.variable, view (tables p.registers t.store t.frames t.bounds t.pointers))
+after_pop t (Ok None) = none
+after_pop t (Err n) = none
 
 unfoldable pub after_allocate : Out → Answer Memory
 after_allocate o = on_given o.answer (λ m. view (tables m o.store o.frames o.bounds o.pointers))
 
-unfoldable pub after_write : Tables → Both Outcome → Answer Memory
+unfoldable pub after_write : Tables → Both (Result ⊤ Refusal) → Answer Memory
 after_write t b = on_outcome b.answer (view (tables t.registers b.table t.frames t.bounds t.pointers))
 
-unfoldable pub after_read : Both Outcome → Answer (List ℕ)
+unfoldable pub after_read : Both (Result ⊤ Refusal) → Answer (List ℕ)
 after_read b = on_outcome b.answer b.table
 
-unfoldable pub after_pointer : Tables → Both Given → Answer Memory
+unfoldable pub after_pointer : Tables → Both (Result (ℕ × Registers) Refusal) → Answer Memory
 after_pointer t b = on_given b.answer (λ m. view (tables m t.store t.frames t.bounds b.table))
 
 -- record p of the live list, as the four slices have it

@@ -11,15 +11,10 @@
 // What lies above the depth and the counts is stale: it means nothing, and is left as it stood.
 #![tactic(auto)]
 
-ghost use Rattle.std.specs.Prelude.{◌≡◌, ◌+◌, ◌*◌, ◌<◌, ◌≤◌, length, take, drop, replicate};
-ghost use Rattle.std.proofs.Math.Seq.{paste};
-ghost use Rattle.memory.specs.Tables.{tables, ready_of, both, all, out, pointer_at, pointer_set, fresh_of, pushed_of, popped_of, zeroed, room_of, made, allocated_of, aligned_of, within_of, ranked_of, standing_of, stands_of, local_of, read_access_of, write_access_of, written_of, constant_access_of, constant_of, read_of, offset_of, address_of};
+ghost use Rattle.std.specs.Prelude.{◌≡◌, ◌+◌, ◌<◌, ◌≤◌, true, length};
+ghost use Rattle.memory.specs.Tables.{tables, ready, ready_of, live, top_first, bound, both, all, out, pointer_at, pointer_set, fresh_of, pushed_of, popped_of, room_of, made, allocated_of, aligned_of, within_of, ranked_of, standing_of, stands_of, local_of, read_access_of, write_access_of, written_of, constant_access_of, constant_of, read_of, offset_of, address_of};
 
-use value::refusal::{
-    ALLOCATIONS_FULL, BEYOND_LENGTH, BYTES_FULL, FRAME_GONE, FRAMES_FULL, IDS_SPENT, MISALIGNED,
-    NO_ALLOCATION, NO_CONSTANT, NOT_GIVEN_OUT, NOT_SOUND, OFFSET_TOO_LARGE, POINTERS_FULL,
-    THROUGH_CONSTANT,
-};
+use value::refusal::Refusal;
 
 // The greatest depth, id counter, numbers of allocations, bytes and pointers, place, and number of variables.
 pub const MAX_DEPTH: usize = 64;
@@ -47,13 +42,13 @@ pub const POINTERS_LENGTH: usize = 20480;
 
 pub const VARIABLES_LENGTH: usize = 512;
 
-// Kinds of a pointer record.
+// Kinds of a pointer record: numbers, since they are words of a table that C lends, which may hold any other.
 pub const LOCAL: u64 = 0;
 
 pub const CONSTANT: u64 = 1;
 
-// running is 1 or, where idle, 0; next is the next place, counter the id of the next frame, pointers how many were given out.
-#[derive(Clone, Copy)]
+// running is 1 or, where idle, 0, a word that C lends and that may be any number; next is the next place, counter the id of the next frame, pointers how many were given out.
+#[derive(Clone, Copy, Debug, PartialEq, Eq)]
 pub struct Registers {
     pub running: u64,
     pub next: usize,
@@ -62,7 +57,8 @@ pub struct Registers {
     pub pointers: usize,
 }
 
-#[derive(Clone, Copy)]
+// A record of the pointers: each field is a word of the table that C lends, kind too.
+#[derive(Clone, Copy, Debug, PartialEq, Eq)]
 pub struct PointerRecord {
     pub kind: u64,
     pub index: u64,
@@ -71,8 +67,8 @@ pub struct PointerRecord {
     pub offset: u64,
 }
 
-// A record of the live list.
-#[derive(Clone, Copy)]
+// A record of the live list: its fields are words of the four slices that C reads, live too, 1 or 0.
+#[derive(Clone, Copy, Debug, PartialEq, Eq)]
 pub struct LiveRecord {
     pub live: u64,
     pub frame: u64,
@@ -80,48 +76,23 @@ pub struct LiveRecord {
     pub offset: u64,
 }
 
-#[derive(Clone, Copy)]
-pub enum Moved {
-    Done(Registers),
-    Refused(u64),
-}
-
-// A popped frame's return place, its return variable + 1 or 0, and the registers; the root is kept.
-#[derive(Clone, Copy)]
-pub enum Popped {
-    Frame(u64, u64, Registers),
-    Root,
-    Refused(u64),
-}
-
-// A new pointer's number, and the registers.
-#[derive(Clone, Copy)]
-pub enum Given {
-    Made(usize, Registers),
-    Refused(u64),
-}
-
-#[derive(Clone, Copy)]
-pub enum Place {
-    At(usize),
-    Refused(u64),
+// A popped frame's return place, its return variable + 1 or 0, and the registers after it.
+#[derive(Clone, Copy, Debug, PartialEq, Eq)]
+pub struct Popped {
+    pub place: u64,
+    pub variable: u64,
+    pub registers: Registers,
 }
 
 // Where a read takes its bytes: from a place of the store, or from a constant.
-#[derive(Clone, Copy)]
+#[derive(Clone, Copy, Debug, PartialEq, Eq)]
 pub enum Source {
     Local(usize),
     Constant(u64),
-    Refused(u64),
-}
-
-#[derive(Clone, Copy)]
-pub enum Outcome {
-    Done,
-    Refused(u64),
 }
 
 // The tables of the memory have their lengths, and depth and pointers lie in them.
+#[tactic(auto, unfolding(crate::specs::Tables::ready_of))]
 pub fn ready(m: Registers, store: usize, frames: usize, bounds: usize, pointers: usize) -> bool
     ensures { result ≡ ready_of m.depth m.pointers store frames bounds pointers }
 {
@@ -143,37 +114,15 @@ pub fn ready(m: Registers, store: usize, frames: usize, bounds: usize, pointers:
     m.pointers <= MAX_POINTERS
 }
 
-// The `len` bytes from `from` on become 0.
-fn zero(s: &mut [u8], from: usize, len: usize)
-    requires { from + len ≤ length s.old }
-    ensures { s.new ≡ zeroed s.old from len }
-{
-    let mut i = 0;
-    while i < len {
-        s[from + i] = 0;
-        i += 1;
-    }
-}
-
-// Every word becomes 0.
-pub fn clear_words(s: &mut [u64])
-    ensures { s.new ≡ replicate (length s.old) 0 }
-{
-    let mut i = 0;
-    while i < s.len() {
-        s[i] = 0;
-        i += 1;
-    }
-}
-
 // Fresh memory: idle, a root frame with no allocation, counter 1, no pointer, no variable set. Every element is 0.
+#[tactic(auto, using(crate::proofs::Laws::ready_of_lem), unfolding(crate::specs::Tables::fresh_of))]
 pub fn fresh(
     store: &mut [u8],
     frames: &mut [u64],
     bounds: &mut [u64],
     pointers: &mut [u64],
     variables: &mut [u64],
-) -> Moved
+) -> Result<Registers, Refusal>
     ensures { all result store.new frames.new bounds.new pointers.new variables.new ≡ fresh_of store.old frames.old bounds.old pointers.old variables.old }
 {
     let m = Registers {
@@ -184,33 +133,39 @@ pub fn fresh(
         pointers: 0,
     };
     if !ready(m, store.len(), frames.len(), bounds.len(), pointers.len()) {
-        return Moved::Refused(NOT_SOUND);
+        return Err(Refusal::NotSound);
     }
     if variables.len() != VARIABLES_LENGTH {
-        return Moved::Refused(NOT_SOUND);
+        return Err(Refusal::NotSound);
     }
-    zero(store, 0, STORE_LENGTH);
-    clear_words(frames);
-    clear_words(bounds);
-    clear_words(pointers);
-    clear_words(variables);
-    Moved::Done(m)
+    store.fill(0);
+    frames.fill(0);
+    bounds.fill(0);
+    pointers.fill(0);
+    variables.fill(0);
+    Ok(m)
 }
 
 // A frame more: its id is the counter, which rises by one. `variable` is the return variable + 1, or 0 for none.
-pub fn push_frame(m: Registers, place: u64, variable: u64, frames: &mut [u64]) -> Moved
+#[tactic(auto, unfolding(crate::specs::Tables::pushed_of))]
+pub fn push_frame(
+    m: Registers,
+    place: u64,
+    variable: u64,
+    frames: &mut [u64],
+) -> Result<Registers, Refusal>
     ensures { both result frames.new ≡ pushed_of m place variable frames.old }
 {
     let d = m.depth;
     let id = m.counter;
     if frames.len() != FRAMES_LENGTH {
-        return Moved::Refused(NOT_SOUND);
+        return Err(Refusal::NotSound);
     }
     if MAX_DEPTH <= d {
-        return Moved::Refused(FRAMES_FULL);
+        return Err(Refusal::FramesFull);
     }
     if MAX_COUNTER <= id {
-        return Moved::Refused(IDS_SPENT);
+        return Err(Refusal::IdsSpent);
     }
     let at = d * 4;
     let live = frames[at + 3];
@@ -218,32 +173,38 @@ pub fn push_frame(m: Registers, place: u64, variable: u64, frames: &mut [u64]) -
     frames[at + 1] = place;
     frames[at + 2] = variable;
     frames[at + 7] = live;
-    let mut n = m;
-    n.depth = d + 1;
-    n.counter = id + 1;
-    Moved::Done(n)
+    Ok(Registers {
+        depth: d + 1,
+        counter: id + 1,
+        ..m
+    })
 }
 
-// The frame's allocations and bytes are free again: only the depth falls, and with it the counts.
-pub fn pop_frame(m: Registers, frames: &[u64]) -> Popped
+// The frame's allocations and bytes are free again: only the depth falls, and with it the counts. The root is kept.
+#[tactic(auto, unfolding(crate::specs::Tables::popped_of))]
+pub fn pop_frame(m: Registers, frames: &[u64]) -> Result<Option<Popped>, Refusal>
     ensures { result ≡ popped_of m frames.now }
 {
     let d = m.depth;
     if frames.len() != FRAMES_LENGTH {
-        return Popped::Refused(NOT_SOUND);
+        return Err(Refusal::NotSound);
     }
     if MAX_DEPTH < d {
-        return Popped::Refused(NOT_SOUND);
+        return Err(Refusal::NotSound);
     }
     if d <= 1 {
-        return Popped::Root;
+        return Ok(None);
     }
     let at = d * 4;
-    let mut n = m;
-    n.depth = d - 1;
-    Popped::Frame(frames[at - 3], frames[at - 2], n)
+    Ok(Some(Popped {
+        place: frames[at - 3],
+        variable: frames[at - 2],
+        registers: Registers { depth: d - 1, ..m },
+    }))
 }
 
+// The record of pointer p.
+#[tactic(auto, unfolding(crate::specs::Tables::pointer_at))]
 fn pointer_at(pointers: &[u64], p: usize) -> PointerRecord
     requires { (length pointers.now ≡ 20480) × (p < 4096) }
     ensures { result ≡ pointer_at pointers.now p }
@@ -270,23 +231,25 @@ fn put_pointer(pointers: &mut [u64], p: usize, v: PointerRecord)
     pointers[at + 4] = v.offset;
 }
 
-// 0, or the refusal of `size` bytes more past `used`, and of a pointer more past `given`.
-pub fn room(used: u64, size: u64, given: usize) -> u64
+// Whether there is room for `size` bytes more past `used`, and for a pointer more past `given`.
+#[tactic(auto, unfolding(crate::specs::Tables::room_of))]
+pub fn room(used: u64, size: u64, given: usize) -> Result<(), Refusal>
     ensures { result ≡ room_of used size given }
 {
     if MAX_BYTES < used {
-        return BYTES_FULL;
+        return Err(Refusal::BytesFull);
     }
     if MAX_BYTES - used < size {
-        return BYTES_FULL;
+        return Err(Refusal::BytesFull);
     }
     if MAX_POINTERS <= given {
-        return POINTERS_FULL;
+        return Err(Refusal::PointersFull);
     }
-    0
+    Ok(())
 }
 
 // The allocation that nothing refuses: `size` bytes more in the top frame, all 0, and a pointer to them.
+#[tactic(auto, using(crate::proofs::Laws::ready_of_lem))]
 fn grant(
     m: Registers,
     size: usize,
@@ -294,9 +257,9 @@ fn grant(
     frames: &mut [u64],
     bounds: &mut [u64],
     pointers: &mut [u64],
-) -> Given
-    requires { allocated_of (tables m store.old frames.old bounds.old pointers.old) size ≡ made (tables m store.old frames.old bounds.old pointers.old) size }
-    ensures { out result store.new frames.new bounds.new pointers.new ≡ allocated_of (tables m store.old frames.old bounds.old pointers.old) size }
+) -> Result<(usize, Registers), Refusal>
+    requires { let t = tables m store.old frames.old bounds.old pointers.old in (ready t ≡ true) × (0 < m.depth) × (top_first t ≤ live t) × (live t < 512) × (bound t (live t) + size ≤ 32768) × (m.pointers < 4096) }
+    ensures { out result store.new frames.new bounds.new pointers.new ≡ made (tables m store.old frames.old bounds.old pointers.old) size }
 {
     let p = m.pointers;
     let e = m.depth * 4;
@@ -307,24 +270,30 @@ fn grant(
     let used = bounds[k];
     frames[e + 3] = live + 1;
     bounds[k + 1] = used + size as u64;
-    zero(store, used as usize, size);
+    let start = used as usize;
+    store[start..start + size].fill(0);
     put_pointer(
         pointers,
         p,
         PointerRecord {
             kind: LOCAL,
             index: (m.depth - 1) as u64,
-            id: id,
+            id,
             allocation: live - first,
             offset: 0,
         },
     );
-    let mut n = m;
-    n.pointers = p + 1;
-    Given::Made(p, n)
+    Ok((
+        p,
+        Registers {
+            pointers: p + 1,
+            ..m
+        },
+    ))
 }
 
 // `size` bytes more in the top frame, all 0, and a pointer to them.
+#[tactic(auto, using(crate::proofs::Laws::room_made), unfolding(crate::specs::Tables::allocated_of))]
 pub fn allocate(
     m: Registers,
     size: usize,
@@ -332,32 +301,30 @@ pub fn allocate(
     frames: &mut [u64],
     bounds: &mut [u64],
     pointers: &mut [u64],
-) -> Given
+) -> Result<(usize, Registers), Refusal>
     ensures { out result store.new frames.new bounds.new pointers.new ≡ allocated_of (tables m store.old frames.old bounds.old pointers.old) size }
 {
     if !ready(m, store.len(), frames.len(), bounds.len(), pointers.len()) {
-        return Given::Refused(NOT_SOUND);
+        return Err(Refusal::NotSound);
     }
     if m.depth == 0 {
-        return Given::Refused(NOT_SOUND);
+        return Err(Refusal::NotSound);
     }
     let e = m.depth * 4;
     let live = frames[e + 3];
     if live < frames[e - 1] {
-        return Given::Refused(NOT_SOUND);
+        return Err(Refusal::NotSound);
     }
     if MAX_ALLOCATIONS <= live {
-        return Given::Refused(ALLOCATIONS_FULL);
+        return Err(Refusal::AllocationsFull);
     }
     let k = live as usize;
-    let no = room(bounds[k], size as u64, m.pointers);
-    if no != 0 {
-        return Given::Refused(no);
-    }
+    room(bounds[k], size as u64, m.pointers)?;
     grant(m, size, store, frames, bounds, pointers)
 }
 
 // Size 0 divides only 0.
+#[tactic(auto, unfolding(crate::specs::Tables::aligned_of))]
 fn aligned(offset: u64, size: u64) -> bool
     ensures { result ≡ aligned_of offset size }
 {
@@ -368,89 +335,97 @@ fn aligned(offset: u64, size: u64) -> bool
 }
 
 // `size` bytes at `offset` in an allocation that starts and stops there, by 29 and 30.
-fn within(start: u64, stop: u64, offset: u64, size: u64) -> Place
+#[tactic(auto, unfolding(crate::specs::Tables::within_of))]
+fn within(start: u64, stop: u64, offset: u64, size: u64) -> Result<usize, Refusal>
     ensures { result ≡ within_of start stop offset size }
 {
     if MAX_BYTES < stop {
-        return Place::Refused(BEYOND_LENGTH);
+        return Err(Refusal::BeyondLength);
     }
     if stop < start {
-        return Place::Refused(BEYOND_LENGTH);
+        return Err(Refusal::BeyondLength);
     }
     if stop - start < size {
-        return Place::Refused(BEYOND_LENGTH);
+        return Err(Refusal::BeyondLength);
     }
     if stop - start - size < offset {
-        return Place::Refused(BEYOND_LENGTH);
+        return Err(Refusal::BeyondLength);
     }
     if !aligned(offset, size) {
-        return Place::Refused(MISALIGNED);
+        return Err(Refusal::Misaligned);
     }
-    Place::At((start + offset) as usize)
+    Ok((start + offset) as usize)
 }
 
 // The rank of frame f's allocation a among all, by 28.
-fn ranked(f: usize, a: u64, frames: &[u64]) -> Place
+#[tactic(auto, unfolding(crate::specs::Tables::ranked_of))]
+fn ranked(f: usize, a: u64, frames: &[u64]) -> Result<usize, Refusal>
     requires { (f < 64) × (length frames.now ≡ 260) }
     ensures { result ≡ ranked_of frames.now f a }
 {
     let first = frames[f * 4 + 3];
     let end = frames[f * 4 + 7];
     if MAX_ALLOCATIONS < end {
-        return Place::Refused(NO_ALLOCATION);
+        return Err(Refusal::NoAllocation);
     }
     if end < first {
-        return Place::Refused(NO_ALLOCATION);
+        return Err(Refusal::NoAllocation);
     }
     if end - first <= a {
-        return Place::Refused(NO_ALLOCATION);
+        return Err(Refusal::NoAllocation);
     }
-    Place::At((first + a) as usize)
+    Ok((first + a) as usize)
 }
 
 // The rank of a local pointer's allocation, by 27 and 28.
-fn standing(d: usize, q: PointerRecord, frames: &[u64]) -> Place
+#[tactic(auto, unfolding(crate::specs::Tables::standing_of))]
+fn standing(d: usize, q: PointerRecord, frames: &[u64]) -> Result<usize, Refusal>
     requires { (d ≤ 64) × (length frames.now ≡ 260) }
     ensures { result ≡ standing_of d frames.now q }
 {
     let f = q.index as usize;
     if d <= f {
-        return Place::Refused(FRAME_GONE);
+        return Err(Refusal::FrameGone);
     }
     if frames[f * 4] != q.id {
-        return Place::Refused(FRAME_GONE);
+        return Err(Refusal::FrameGone);
     }
     ranked(f, q.allocation, frames)
 }
 
 // The same for any depth and any frames: 10 first.
-pub fn stands(d: usize, q: PointerRecord, frames: &[u64]) -> Place
+#[tactic(auto, unfolding(crate::specs::Tables::stands_of))]
+pub fn stands(d: usize, q: PointerRecord, frames: &[u64]) -> Result<usize, Refusal>
     ensures { result ≡ stands_of d frames.now q }
 {
     if frames.len() != FRAMES_LENGTH {
-        return Place::Refused(NOT_SOUND);
+        return Err(Refusal::NotSound);
     }
     if MAX_DEPTH < d {
-        return Place::Refused(NOT_SOUND);
+        return Err(Refusal::NotSound);
     }
     standing(d, q, frames)
 }
 
 // A local access: 27, 28, 29, 30.
-fn local(d: usize, q: PointerRecord, size: u64, frames: &[u64], bounds: &[u64]) -> Source
+#[tactic(auto, using(crate::proofs::Laws::standing_few), unfolding(crate::specs::Tables::local_of))]
+fn local(
+    d: usize,
+    q: PointerRecord,
+    size: u64,
+    frames: &[u64],
+    bounds: &[u64],
+) -> Result<Source, Refusal>
     requires { (d ≤ 64) × (length frames.now ≡ 260) × (length bounds.now ≡ 513) }
     ensures { result ≡ local_of d frames.now bounds.now q size }
 {
-    match standing(d, q, frames) {
-        Place::Refused(n) => Source::Refused(n),
-        Place::At(k) => match within(bounds[k], bounds[k + 1], q.offset, size) {
-            Place::At(at) => Source::Local(at),
-            Place::Refused(n) => Source::Refused(n),
-        },
-    }
+    let k = standing(d, q, frames)?;
+    let at = within(bounds[k], bounds[k + 1], q.offset, size)?;
+    Ok(Source::Local(at))
 }
 
 // What a read of `size` bytes through pointer p takes: 25, then a constant, or a local access.
+#[tactic(auto, using(crate::proofs::Laws::ready_of_lem), unfolding(crate::specs::Tables::read_access_of))]
 pub fn read_access(
     m: Registers,
     p: usize,
@@ -459,23 +434,24 @@ pub fn read_access(
     frames: &[u64],
     bounds: &[u64],
     pointers: &[u64],
-) -> Source
+) -> Result<Source, Refusal>
     ensures { result ≡ read_access_of (tables m store.now frames.now bounds.now pointers.now) p size }
 {
     if !ready(m, store.len(), frames.len(), bounds.len(), pointers.len()) {
-        return Source::Refused(NOT_SOUND);
+        return Err(Refusal::NotSound);
     }
     if m.pointers <= p {
-        return Source::Refused(NOT_GIVEN_OUT);
+        return Err(Refusal::NotGivenOut);
     }
     let q = pointer_at(pointers, p);
     if q.kind != LOCAL {
-        return Source::Constant(q.index);
+        return Ok(Source::Constant(q.index));
     }
     local(m.depth, q, size as u64, frames, bounds)
 }
 
 // Where in the store a write of `size` bytes through pointer p goes: 25, 26, then a local access.
+#[tactic(auto, unfolding(crate::specs::Tables::write_access_of))]
 pub fn write_access(
     m: Registers,
     p: usize,
@@ -484,41 +460,17 @@ pub fn write_access(
     frames: &[u64],
     bounds: &[u64],
     pointers: &[u64],
-) -> Place
+) -> Result<usize, Refusal>
     ensures { result ≡ write_access_of (tables m store.now frames.now bounds.now pointers.now) p size }
 {
-    match read_access(m, p, size, store, frames, bounds, pointers) {
-        Source::Local(at) => Place::At(at),
-        Source::Constant(_) => Place::Refused(THROUGH_CONSTANT),
-        Source::Refused(n) => Place::Refused(n),
-    }
-}
-
-// `s` is copied into `d` from `at` on.
-fn copy_in(d: &mut [u8], at: usize, s: &[u8])
-    requires { at + length s.now ≤ length d.old }
-    ensures { d.new ≡ paste d.old at s.now (length s.now) }
-{
-    let mut i = 0;
-    while i < s.len() {
-        d[at + i] = s[i];
-        i += 1;
-    }
-}
-
-// `d` is filled from `s`, from `at` on.
-fn copy_out(s: &[u8], at: usize, d: &mut [u8])
-    requires { at + length d.old ≤ length s.now }
-    ensures { d.new ≡ take (length d.old) (drop at s.now) }
-{
-    let mut i = 0;
-    while i < d.len() {
-        d[i] = s[at + i];
-        i += 1;
+    match read_access(m, p, size, store, frames, bounds, pointers)? {
+        Source::Local(at) => Ok(at),
+        Source::Constant(_) => Err(Refusal::ThroughConstant),
     }
 }
 
 // The bytes are written through pointer p.
+#[tactic(auto, using(crate::proofs::Laws::fits), unfolding(crate::specs::Tables::written_of))]
 pub fn write_bytes(
     m: Registers,
     p: usize,
@@ -527,54 +479,49 @@ pub fn write_bytes(
     frames: &[u64],
     bounds: &[u64],
     pointers: &[u64],
-) -> Outcome
+) -> Result<(), Refusal>
     ensures { both result store.new ≡ written_of (tables m store.old frames.now bounds.now pointers.now) p bytes.now }
 {
-    match write_access(m, p, bytes.len(), store, frames, bounds, pointers) {
-        Place::At(at) => {
-            copy_in(store, at, bytes);
-            Outcome::Done
-        }
-        Place::Refused(n) => Outcome::Refused(n),
-    }
+    let at = write_access(m, p, bytes.len(), store, frames, bounds, pointers)?;
+    store[at..at + bytes.len()].copy_from_slice(bytes);
+    Ok(())
 }
 
 // Where the first `size` bytes of constant k stand in `raw`, whose start and length there are its record of `extents`: 40, 29.
-pub fn constant_access(k: u64, size: u64, raw: &[u8], extents: &[u64]) -> Place
+#[tactic(auto, unfolding(crate::specs::Tables::constant_access_of))]
+pub fn constant_access(k: u64, size: u64, raw: &[u8], extents: &[u64]) -> Result<usize, Refusal>
     ensures { result ≡ constant_access_of k size raw.now extents.now }
 {
     if (extents.len() / 2) as u64 <= k {
-        return Place::Refused(NO_CONSTANT);
+        return Err(Refusal::NoConstant);
     }
     let at = k as usize * 2;
     let start = extents[at];
     let length = extents[at + 1];
     if (raw.len() as u64) < start {
-        return Place::Refused(NO_CONSTANT);
+        return Err(Refusal::NoConstant);
     }
     if (raw.len() as u64) - start < length {
-        return Place::Refused(NO_CONSTANT);
+        return Err(Refusal::NoConstant);
     }
     if length < size {
-        return Place::Refused(BEYOND_LENGTH);
+        return Err(Refusal::BeyondLength);
     }
-    Place::At(start as usize)
+    Ok(start as usize)
 }
 
 // The first bytes of constant k.
-pub fn read_constant(k: u64, bytes: &mut [u8], raw: &[u8], extents: &[u64]) -> Outcome
+#[tactic(auto, using(crate::proofs::Laws::fits), unfolding(crate::specs::Tables::constant_of))]
+pub fn read_constant(k: u64, bytes: &mut [u8], raw: &[u8], extents: &[u64]) -> Result<(), Refusal>
     ensures { both result bytes.new ≡ constant_of k bytes.old raw.now extents.now }
 {
-    match constant_access(k, bytes.len() as u64, raw, extents) {
-        Place::At(start) => {
-            copy_out(raw, start, bytes);
-            Outcome::Done
-        }
-        Place::Refused(n) => Outcome::Refused(n),
-    }
+    let start = constant_access(k, bytes.len() as u64, raw, extents)?;
+    bytes.copy_from_slice(&raw[start..start + bytes.len()]);
+    Ok(())
 }
 
 // The bytes are filled by what pointer p leads to.
+#[tactic(auto, using(crate::proofs::Laws::fits), unfolding(crate::specs::Tables::read_of))]
 pub fn read_bytes(
     m: Registers,
     p: usize,
@@ -585,42 +532,45 @@ pub fn read_bytes(
     pointers: &[u64],
     raw: &[u8],
     extents: &[u64],
-) -> Outcome
+) -> Result<(), Refusal>
     ensures { both result bytes.new ≡ read_of (tables m store.now frames.now bounds.now pointers.now) p bytes.old raw.now extents.now }
 {
-    match read_access(m, p, bytes.len(), store, frames, bounds, pointers) {
+    match read_access(m, p, bytes.len(), store, frames, bounds, pointers)? {
         Source::Local(at) => {
-            copy_out(store, at, bytes);
-            Outcome::Done
+            bytes.copy_from_slice(&store[at..at + bytes.len()]);
+            Ok(())
         }
         Source::Constant(k) => read_constant(k, bytes, raw, extents),
-        Source::Refused(n) => Outcome::Refused(n),
     }
 }
 
 // A pointer more, `by` bytes past where pointer p leads: 25, 26, 33, 39.
-pub fn offset_by(m: Registers, p: usize, by: u64, pointers: &mut [u64]) -> Given
+#[tactic(auto, unfolding(crate::specs::Tables::offset_of))]
+pub fn offset_by(
+    m: Registers,
+    p: usize,
+    by: u64,
+    pointers: &mut [u64],
+) -> Result<(usize, Registers), Refusal>
     ensures { both result pointers.new ≡ offset_of m p by pointers.old }
 {
     let n = m.pointers;
     if pointers.len() != POINTERS_LENGTH {
-        return Given::Refused(NOT_SOUND);
+        return Err(Refusal::NotSound);
     }
     if MAX_POINTERS < n {
-        return Given::Refused(NOT_SOUND);
+        return Err(Refusal::NotSound);
     }
     if n <= p {
-        return Given::Refused(NOT_GIVEN_OUT);
+        return Err(Refusal::NotGivenOut);
     }
     let q = pointer_at(pointers, p);
     if q.kind != LOCAL {
-        return Given::Refused(THROUGH_CONSTANT);
+        return Err(Refusal::ThroughConstant);
     }
-    if 18446744073709551615 - by < q.offset {
-        return Given::Refused(OFFSET_TOO_LARGE);
-    }
+    let offset = q.offset.checked_add(by).ok_or(Refusal::OffsetTooLarge)?;
     if MAX_POINTERS <= n {
-        return Given::Refused(POINTERS_FULL);
+        return Err(Refusal::PointersFull);
     }
     put_pointer(
         pointers,
@@ -630,24 +580,33 @@ pub fn offset_by(m: Registers, p: usize, by: u64, pointers: &mut [u64]) -> Given
             index: q.index,
             id: q.id,
             allocation: q.allocation,
-            offset: q.offset + by,
+            offset,
         },
     );
-    let mut t = m;
-    t.pointers = n + 1;
-    Given::Made(n, t)
+    Ok((
+        n,
+        Registers {
+            pointers: n + 1,
+            ..m
+        },
+    ))
 }
 
 // A pointer more, to constant k: 39.
-pub fn constant_address(m: Registers, k: u64, pointers: &mut [u64]) -> Given
+#[tactic(auto, unfolding(crate::specs::Tables::address_of))]
+pub fn constant_address(
+    m: Registers,
+    k: u64,
+    pointers: &mut [u64],
+) -> Result<(usize, Registers), Refusal>
     ensures { both result pointers.new ≡ address_of m k pointers.old }
 {
     let n = m.pointers;
     if pointers.len() != POINTERS_LENGTH {
-        return Given::Refused(NOT_SOUND);
+        return Err(Refusal::NotSound);
     }
     if MAX_POINTERS <= n {
-        return Given::Refused(POINTERS_FULL);
+        return Err(Refusal::PointersFull);
     }
     put_pointer(
         pointers,
@@ -660,7 +619,11 @@ pub fn constant_address(m: Registers, k: u64, pointers: &mut [u64]) -> Given
             offset: 0,
         },
     );
-    let mut t = m;
-    t.pointers = n + 1;
-    Given::Made(n, t)
+    Ok((
+        n,
+        Registers {
+            pointers: n + 1,
+            ..m
+        },
+    ))
 }

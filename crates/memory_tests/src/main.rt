@@ -2,384 +2,171 @@
 // what the calls answered: a line for each row of SCRIPT, with how many calls were granted and the last refusal, 0 for none.
 #![tactic(auto)]
 
-use memory::{Given, Moved, Outcome, Popped, Registers};
-use std::io;
+use memory::{Popped, Registers};
+use std::{fmt, io};
+use value::refusal::Refusal;
 
 // What a row does.
-const FRESH: u64 = 0;
+#[derive(Clone, Copy)]
+enum What {
+    Fresh,
+    Push,
+    Pop,
+    Allocate,
+    Offset,
+    Address,
+    Write,
+    Read,
+    Sound,
+    ListShort,
+    ListLong,
+}
 
-const PUSH: u64 = 1;
+impl fmt::Display for What {
+    fn fmt<W: fmt::Write>(&self, f: &mut fmt::Formatter<W>) -> fmt::Result {
+        f.write_str(match self {
+            What::Fresh => "fresh",
+            What::Push => "push",
+            What::Pop => "pop",
+            What::Allocate => "allocate",
+            What::Offset => "offset",
+            What::Address => "address",
+            What::Write => "write",
+            What::Read => "read",
+            What::Sound => "sound",
+            What::ListShort | What::ListLong => "list",
+        })
+    }
+}
 
-const POP: u64 = 2;
-
-const ALLOCATE: u64 = 3;
-
-const OFFSET: u64 = 4;
-
-const ADDRESS: u64 = 5;
-
-const WRITE: u64 = 6;
-
-const READ: u64 = 7;
-
-const SOUND: u64 = 8;
-
-const LIST_SHORT: u64 = 9;
-
-const LIST_LONG: u64 = 10;
-
-const ROWS: usize = 54;
-
-// What, how often, and its two arguments: PUSH counter at least; ALLOCATE size; OFFSET pointer, by; ADDRESS constant;
-// WRITE and READ pointer, size; SOUND running.
-const SCRIPT: [u64; 216] = [
+// What, how often, and its two arguments: Push counter at least; Allocate size; Offset pointer, by; Address constant;
+// Write and Read pointer, size; Sound running.
+const SCRIPT: [(What, u64, u64, u64); 54] = [
     // 64 frames, root included, and one more; then down to the root and one more
-    FRESH,
-    1,
-    0,
-    0,
-    SOUND,
-    1,
-    0,
-    0,
-    PUSH,
-    63,
-    0,
-    0,
-    SOUND,
-    1,
-    0,
-    0,
-    SOUND,
-    1,
-    1,
-    0,
-    PUSH,
-    1,
-    0,
-    0,
-    POP,
-    63,
-    0,
-    0,
-    POP,
-    1,
-    0,
-    0,
+    (What::Fresh, 1, 0, 0),
+    (What::Sound, 1, 0, 0),
+    (What::Push, 63, 0, 0),
+    (What::Sound, 1, 0, 0),
+    (What::Sound, 1, 1, 0),
+    (What::Push, 1, 0, 0),
+    (What::Pop, 63, 0, 0),
+    (What::Pop, 1, 0, 0),
     // all ids spent
-    PUSH,
-    1,
-    4294967294,
-    0,
-    PUSH,
-    1,
-    4294967295,
-    0,
+    (What::Push, 1, 4294967294, 0),
+    (What::Push, 1, 4294967295, 0),
     // 512 allocations that fill the store, and one more of no bytes
-    FRESH,
-    1,
-    0,
-    0,
-    ALLOCATE,
-    512,
-    64,
-    0,
-    SOUND,
-    1,
-    0,
-    0,
-    ALLOCATE,
-    1,
-    0,
-    0,
-    WRITE,
-    1,
-    511,
-    64,
-    READ,
-    1,
-    511,
-    64,
-    READ,
-    1,
-    510,
-    64,
+    (What::Fresh, 1, 0, 0),
+    (What::Allocate, 512, 64, 0),
+    (What::Sound, 1, 0, 0),
+    (What::Allocate, 1, 0, 0),
+    (What::Write, 1, 511, 64),
+    (What::Read, 1, 511, 64),
+    (What::Read, 1, 510, 64),
     // 32,768 bytes at once, and one byte more; none more is granted
-    FRESH,
-    1,
-    0,
-    0,
-    ALLOCATE,
-    1,
-    32769,
-    0,
-    ALLOCATE,
-    1,
-    32768,
-    0,
-    ALLOCATE,
-    1,
-    1,
-    0,
-    ALLOCATE,
-    1,
-    0,
-    0,
+    (What::Fresh, 1, 0, 0),
+    (What::Allocate, 1, 32769, 0),
+    (What::Allocate, 1, 32768, 0),
+    (What::Allocate, 1, 1, 0),
+    (What::Allocate, 1, 0, 0),
     // 4,096 pointers, and one more by each way
-    FRESH,
-    1,
-    0,
-    0,
-    ALLOCATE,
-    1,
-    8,
-    0,
-    OFFSET,
-    4095,
-    0,
-    4,
-    SOUND,
-    1,
-    0,
-    0,
-    OFFSET,
-    1,
-    0,
-    4,
-    ADDRESS,
-    1,
-    3,
-    0,
-    ALLOCATE,
-    1,
-    0,
-    0,
-    READ,
-    1,
-    4095,
-    4,
-    READ,
-    1,
-    4096,
-    4,
+    (What::Fresh, 1, 0, 0),
+    (What::Allocate, 1, 8, 0),
+    (What::Offset, 4095, 0, 4),
+    (What::Sound, 1, 0, 0),
+    (What::Offset, 1, 0, 4),
+    (What::Address, 1, 3, 0),
+    (What::Allocate, 1, 0, 0),
+    (What::Read, 1, 4095, 4),
+    (What::Read, 1, 4096, 4),
     // a frame's bytes are used again by the next one, all 0, and the old pointer is refused
-    FRESH,
-    1,
-    0,
-    0,
-    PUSH,
-    1,
-    0,
-    0,
-    ALLOCATE,
-    1,
-    32,
-    0,
-    WRITE,
-    1,
-    0,
-    32,
-    READ,
-    1,
-    0,
-    32,
-    POP,
-    1,
-    0,
-    0,
-    READ,
-    1,
-    0,
-    32,
-    PUSH,
-    1,
-    0,
-    0,
-    ALLOCATE,
-    1,
-    32,
-    0,
-    READ,
-    1,
-    1,
-    32,
-    WRITE,
-    1,
-    0,
-    32,
-    LIST_SHORT,
-    1,
-    0,
-    0,
-    LIST_LONG,
-    1,
-    0,
-    0,
+    (What::Fresh, 1, 0, 0),
+    (What::Push, 1, 0, 0),
+    (What::Allocate, 1, 32, 0),
+    (What::Write, 1, 0, 32),
+    (What::Read, 1, 0, 32),
+    (What::Pop, 1, 0, 0),
+    (What::Read, 1, 0, 32),
+    (What::Push, 1, 0, 0),
+    (What::Allocate, 1, 32, 0),
+    (What::Read, 1, 1, 32),
+    (What::Write, 1, 0, 32),
+    (What::ListShort, 1, 0, 0),
+    (What::ListLong, 1, 0, 0),
     // 4 bytes and none at offsets of 8 bytes; a constant's pointer; an offset past all numbers
-    FRESH,
-    1,
-    0,
-    0,
-    ALLOCATE,
-    1,
-    8,
-    0,
-    OFFSET,
-    1,
-    0,
-    6,
-    OFFSET,
-    1,
-    0,
-    8,
-    WRITE,
-    1,
-    1,
-    4,
-    WRITE,
-    1,
-    2,
-    0,
-    ADDRESS,
-    1,
-    0,
-    0,
-    WRITE,
-    1,
-    3,
-    4,
-    OFFSET,
-    1,
-    3,
-    1,
-    OFFSET,
-    1,
-    1,
-    18446744073709551615,
+    (What::Fresh, 1, 0, 0),
+    (What::Allocate, 1, 8, 0),
+    (What::Offset, 1, 0, 6),
+    (What::Offset, 1, 0, 8),
+    (What::Write, 1, 1, 4),
+    (What::Write, 1, 2, 0),
+    (What::Address, 1, 0, 0),
+    (What::Write, 1, 3, 4),
+    (What::Offset, 1, 3, 1),
+    (What::Offset, 1, 1, 18446744073709551615),
 ];
 
 // How many calls were granted, the last refusal, and the registers after them.
 #[derive(Clone, Copy)]
 struct Tally {
     granted: u64,
-    refusal: u64,
+    refusal: Option<Refusal>,
     registers: Registers,
 }
 
-fn begun(m: Registers) -> Tally {
+fn begun(registers: Registers) -> Tally {
     Tally {
         granted: 0,
-        refusal: 0,
-        registers: m,
+        refusal: None,
+        registers,
     }
 }
 
-fn more(n: u64) -> u64 {
-    if n < 1000000 {
-        return n + 1;
-    }
-    n
-}
-
-fn granted(t: Tally, m: Registers) -> Tally {
-    Tally {
-        granted: more(t.granted),
-        refusal: t.refusal,
-        registers: m,
-    }
-}
-
-fn refused(t: Tally, n: u64) -> Tally {
-    let m = t.registers;
-    Tally {
-        granted: t.granted,
-        refusal: n,
-        registers: m,
-    }
-}
-
-fn moved(t: Tally, r: Moved) -> Tally {
+fn moved(t: Tally, r: Result<Registers, Refusal>) -> Tally {
     match r {
-        Moved::Done(m) => granted(t, m),
-        Moved::Refused(n) => refused(t, n),
+        Ok(registers) => Tally {
+            granted: t.granted.saturating_add(1),
+            registers,
+            ..t
+        },
+        Err(why) => Tally {
+            refusal: Some(why),
+            ..t
+        },
     }
 }
 
-fn given(t: Tally, r: Given) -> Tally {
+fn given(t: Tally, r: Result<(usize, Registers), Refusal>) -> Tally {
+    moved(t, r.map(|(_, m)| m))
+}
+
+fn popped(t: Tally, r: Result<Option<Popped>, Refusal>) -> Tally {
     match r {
-        Given::Made(_, m) => granted(t, m),
-        Given::Refused(n) => refused(t, n),
+        Ok(Some(p)) => moved(t, Ok(p.registers)),
+        Ok(None) => t,
+        Err(why) => moved(t, Err(why)),
     }
 }
 
-fn popped(t: Tally, r: Popped) -> Tally {
-    match r {
-        Popped::Frame(_, _, m) => granted(t, m),
-        Popped::Root => t,
-        Popped::Refused(n) => refused(t, n),
-    }
+fn outcome(m: Registers, r: Result<(), Refusal>) -> Tally {
+    moved(begun(m), r.map(|()| m))
 }
 
-fn outcome(t: Tally, r: Outcome) -> Tally {
-    let m = t.registers;
-    match r {
-        Outcome::Done => granted(t, m),
-        Outcome::Refused(n) => refused(t, n),
-    }
-}
-
-fn number(rt: &impl Print, n: u64) -> io::Result<()> {
-    print!(rt; " {n}")
-}
-
-fn name(rt: &impl Print, what: u64) -> io::Result<()> {
-    match what {
-        FRESH => rt.print("fresh"),
-        PUSH => rt.print("push"),
-        POP => rt.print("pop"),
-        ALLOCATE => rt.print("allocate"),
-        OFFSET => rt.print("offset"),
-        ADDRESS => rt.print("address"),
-        WRITE => rt.print("write"),
-        READ => rt.print("read"),
-        SOUND => rt.print("sound"),
-        _ => rt.print("list"),
-    }
-}
-
-fn tell(rt: &impl Print, t: Tally) -> io::Result<()> {
-    rt.print(":")?;
-    number(rt, t.granted)?;
-    rt.print(" granted,")?;
-    number(rt, t.refusal)?;
-    rt.print("\n")
-}
-
-// The counter, but at least so much.
-fn raised(m: Registers, least: u64) -> Registers {
-    let mut r = m;
-    if r.counter < least {
-        r.counter = least;
-    }
-    r
-}
-
+// The counter is at least so much.
 fn pushes(m: Registers, n: u64, least: u64, frames: &mut [u64]) -> Tally {
-    let mut t = begun(raised(m, least));
-    let mut i = 0;
-    while i < n {
+    let mut t = begun(Registers {
+        counter: m.counter.max(least),
+        ..m
+    });
+    for _ in 0..n {
         t = moved(t, memory::push_frame(t.registers, 7, 3, frames));
-        i += 1;
     }
     t
 }
 
 fn pops(m: Registers, n: u64, frames: &[u64]) -> Tally {
     let mut t = begun(m);
-    let mut i = 0;
-    while i < n {
+    for _ in 0..n {
         t = popped(t, memory::pop_frame(t.registers, frames));
-        i += 1;
     }
     t
 }
@@ -394,40 +181,24 @@ fn allocates(
     pointers: &mut [u64],
 ) -> Tally {
     let mut t = begun(m);
-    let mut i = 0;
-    while i < n {
+    for _ in 0..n {
         t = given(
             t,
             memory::allocate(t.registers, size as usize, store, frames, bounds, pointers),
         );
-        i += 1;
     }
     t
 }
 
 fn offsets(m: Registers, n: u64, p: u64, by: u64, pointers: &mut [u64]) -> Tally {
     let mut t = begun(m);
-    let mut i = 0;
-    while i < n {
+    for _ in 0..n {
         t = given(t, memory::offset_by(t.registers, p as usize, by, pointers));
-        i += 1;
     }
     t
 }
 
-fn wide(b: u8) -> u64 {
-    b as u64
-}
-
-// The first byte, or 0 where there is none.
-fn first(bytes: &[u8]) -> u64 {
-    if bytes.len() == 0 {
-        return 0;
-    }
-    wide(bytes[0])
-}
-
-// A read into these bytes, and the first of them afterwards.
+// A read into these bytes, and the first of them afterwards, or 0 where there is none.
 fn read_into(
     rt: &impl Print,
     m: Registers,
@@ -441,8 +212,9 @@ fn read_into(
     let r = memory::read_bytes(
         m, p as usize, bytes, store, frames, bounds, pointers, store, frames,
     );
-    number(rt, first(bytes))?;
-    Ok(outcome(begun(m), r))
+    let first = bytes.first().copied().unwrap_or(0);
+    print!(rt; " {first}")?;
+    Ok(outcome(m, r))
 }
 
 fn reads(
@@ -478,32 +250,59 @@ fn writes(
         return begun(m);
     }
     let r = memory::write_bytes(m, p as usize, &bytes[..n], store, frames, bounds, pointers);
-    outcome(begun(m), r)
+    outcome(m, r)
 }
 
-fn running(m: Registers, flag: u64) -> Registers {
-    let mut n = m;
-    n.running = flag;
-    n
-}
-
-// Granted where the state is sound.
+// Granted where the state is sound, with this word in `running`.
 fn sounds(
     m: Registers,
-    flag: u64,
+    running: u64,
     store: &[u8],
     frames: &[u64],
     bounds: &[u64],
     pointers: &[u64],
     variables: &[u64],
 ) -> Tally {
-    if soundness::sound(running(m, flag), store, frames, bounds, pointers, variables) {
-        return granted(begun(m), m);
+    if soundness::sound(
+        Registers { running, ..m },
+        store,
+        frames,
+        bounds,
+        pointers,
+        variables,
+    ) {
+        return outcome(m, Ok(()));
     }
     begun(m)
 }
 
-// The live list with room for one record alone.
+// The live list with room for four records but for their offsets: whether each lives, their frames, and the answer.
+fn listed(
+    m: Registers,
+    store: &[u8],
+    frames: &[u64],
+    bounds: &[u64],
+    pointers: &[u64],
+    offset: &mut [u64],
+) -> ([u64; 4], [u64; 4], Result<(), Refusal>) {
+    let mut live = [9u64; 4];
+    let mut frame = [9u64; 4];
+    let mut allocation = [9u64; 4];
+    let r = live_list::live_list(
+        m,
+        store,
+        frames,
+        bounds,
+        pointers,
+        &mut live,
+        &mut frame,
+        &mut allocation,
+        offset,
+    );
+    (live, frame, r)
+}
+
+// Room for one record alone.
 fn list_short(
     rt: &impl Print,
     m: Registers,
@@ -512,26 +311,12 @@ fn list_short(
     bounds: &[u64],
     pointers: &[u64],
 ) -> io::Result<Tally> {
-    let mut live = [9u64; 4];
-    let mut frame = [9u64; 4];
-    let mut allocation = [9u64; 4];
-    let mut offset = [9u64; 1];
-    let r = live_list::live_list(
-        m,
-        store,
-        frames,
-        bounds,
-        pointers,
-        &mut live,
-        &mut frame,
-        &mut allocation,
-        &mut offset,
-    );
-    number(rt, live[0])?;
-    Ok(outcome(begun(m), r))
+    let (live, _, r) = listed(m, store, frames, bounds, pointers, &mut [9u64; 1]);
+    print!(rt; " {}", live[0])?;
+    Ok(outcome(m, r))
 }
 
-// The live list with room for four records: whether the first three live, and the frame of the first.
+// Room for four: whether the first three live, and the frame of the first.
 fn list_long(
     rt: &impl Print,
     m: Registers,
@@ -540,31 +325,14 @@ fn list_long(
     bounds: &[u64],
     pointers: &[u64],
 ) -> io::Result<Tally> {
-    let mut live = [9u64; 4];
-    let mut frame = [9u64; 4];
-    let mut allocation = [9u64; 4];
-    let mut offset = [9u64; 4];
-    let r = live_list::live_list(
-        m,
-        store,
-        frames,
-        bounds,
-        pointers,
-        &mut live,
-        &mut frame,
-        &mut allocation,
-        &mut offset,
-    );
-    number(rt, live[0])?;
-    number(rt, live[1])?;
-    number(rt, live[2])?;
-    number(rt, frame[0])?;
-    Ok(outcome(begun(m), r))
+    let (live, frame, r) = listed(m, store, frames, bounds, pointers, &mut [9u64; 4]);
+    print!(rt; " {} {} {} {}", live[0], live[1], live[2], frame[0])?;
+    Ok(outcome(m, r))
 }
 
 fn act(
     rt: &impl Print,
-    what: u64,
+    what: What,
     n: u64,
     a: u64,
     b: u64,
@@ -577,23 +345,22 @@ fn act(
     pointers: &mut [u64],
     variables: &mut [u64],
 ) -> io::Result<Tally> {
-    let t = match what {
-        FRESH => moved(
+    Ok(match what {
+        What::Fresh => moved(
             begun(m),
             memory::fresh(store, frames, bounds, pointers, variables),
         ),
-        PUSH => pushes(m, n, a, frames),
-        POP => pops(m, n, frames),
-        ALLOCATE => allocates(m, n, a, store, frames, bounds, pointers),
-        OFFSET => offsets(m, n, a, b, pointers),
-        ADDRESS => given(begun(m), memory::constant_address(m, a, pointers)),
-        WRITE => writes(m, a, b, full, store, frames, bounds, pointers),
-        READ => reads(rt, m, a, b, space, store, frames, bounds, pointers)?,
-        SOUND => sounds(m, a, store, frames, bounds, pointers, variables),
-        LIST_SHORT => list_short(rt, m, store, frames, bounds, pointers)?,
-        _ => list_long(rt, m, store, frames, bounds, pointers)?,
-    };
-    Ok(t)
+        What::Push => pushes(m, n, a, frames),
+        What::Pop => pops(m, n, frames),
+        What::Allocate => allocates(m, n, a, store, frames, bounds, pointers),
+        What::Offset => offsets(m, n, a, b, pointers),
+        What::Address => given(begun(m), memory::constant_address(m, a, pointers)),
+        What::Write => writes(m, a, b, full, store, frames, bounds, pointers),
+        What::Read => reads(rt, m, a, b, space, store, frames, bounds, pointers)?,
+        What::Sound => sounds(m, a, store, frames, bounds, pointers, variables),
+        What::ListShort => list_short(rt, m, store, frames, bounds, pointers)?,
+        What::ListLong => list_long(rt, m, store, frames, bounds, pointers)?,
+    })
 }
 
 // Each row of the script in turn.
@@ -609,23 +376,14 @@ fn run(
     variables: &mut [u64],
 ) -> io::Result<()> {
     let mut s = m;
-    let mut i = 0;
-    while i < ROWS {
-        let at = i * 4;
-        let what = SCRIPT[at];
-        let n = SCRIPT[at + 1];
-        let a = SCRIPT[at + 2];
-        let b = SCRIPT[at + 3];
-        name(rt, what)?;
-        number(rt, n)?;
-        number(rt, a)?;
-        number(rt, b)?;
+    for &(what, n, a, b) in SCRIPT.iter() {
+        print!(rt; "{what} {n} {a} {b}")?;
         let t = act(
             rt, what, n, a, b, s, full, space, store, frames, bounds, pointers, variables,
         )?;
-        tell(rt, t)?;
+        let refusal = t.refusal.map_or(0, |why| why.number());
+        println!(rt; ": {} granted, {refusal}", t.granted)?;
         s = t.registers;
-        i += 1;
     }
     Ok(())
 }
