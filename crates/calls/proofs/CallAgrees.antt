@@ -1,4 +1,5 @@
 -- Call agrees with the believed machine: on sound tables it is refused with the same number and nothing has changed, or the tables after are sound again and show the believed machine's state.
+use Rattle.std.specs.Prelude.{Ok, Err}
 use Prim.Native.Nat.{ℕ, ◌+◌, ◌<◌, ◌≤◌}
 use native.Mathlib.Omega.{arith}
 use mathlib.Core.Bool.{Bool, true}
@@ -6,15 +7,13 @@ use mathlib.Core.Path.{◌≡◌, refl, sym, ap, ap₂, ◌∙◌, subst₂}
 use mathlib.Core.List.{List}
 use mathlib.Core.Option.{Option, none, some}
 use lib.ListN.{length, get_or}
-use lib.Dec.{eqb}
-use borrow.Author.Tests.{eq-eqb, ne_eqb, lt-ltb, eqb-true, eqb-false}
+use borrow.Author.Tests.{ne_eqb, lt-ltb}
+use Rattle.value.specs.declared.refusal.Refusal.{Refusal}
 use Rattle.value.specs.Answer.{Answer, ok, refused, ◌>>=◌}
 use Rattle.image.specs.Program.{Program, Operand, Declared, Function, function_at, place_of, Call}
 use Rattle.memory.specs.Memory.{Memory, Back, push_frame}
 use Rattle.memory.specs.Tables.{Tables, tables, registers}
 use Rattle.memory.specs.View.{view, back_in, variables_in}
-use Rattle.memory.specs.declared.Place.TheVariants as place
-use Rattle.memory.proofs.Every.{by_test}
 use Rattle.memory.proofs.Facts.{Sound}
 use Rattle.memory.proofs.Exists.{variable_out, variable-back}
 use Rattle.machine.specs.Machine.{Vars, Machine, went, set_from, as_variable, set_arguments, to_of, make_slots, execute}
@@ -29,7 +28,7 @@ use Rattle.calls.specs.Variables.{slots_pointed, slots_on, pointer_on}
 use Rattle.calls.specs.Code.{arrived, called_in, called_of}
 use Rattle.calls.specs.declared.fields.CallFields.{CallFields}
 use Rattle.calls.specs.declared.fields.Callee.{Callee}
-use Rattle.calls.proofs.Rooms.{call_room_given}
+use Rattle.calls.proofs.Rooms.{by_room, call_room_given}
 use Rattle.calls.proofs.SlotsAgree.{pointed}
 use Rattle.calls.proofs.EnterAgrees.{call_room, EnterMade, enter-refused, enter-made}
 use Rattle.calls.proofs.VariablesAgree.{Alike, same-refusal, same-values, VariableFits, slots-pointed, Calling, believed_rest, CalleeRead, FunctionFits, CallRead, CallFits, rest_alike}
@@ -71,10 +70,10 @@ grouped {A} {M} {B} {R} (ok a) b c d e k = slots (b a)
 
 -- "A refusal leaves state and lent buffers untouched"; else the tables after are sound, run, and show the believed machine's state
 pub data CallAgrees (t : Tables) (vars : List ℕ) : Stepped → Answer (Machine.Stepped Memory) → Type 0 where
-  call-refused : (n : ℕ) → CallAgrees t vars (unstepped t vars n) (refused n)
+  call-refused : (n : Refusal) → CallAgrees t vars (unstepped t vars n) (refused n)
   call-went : (after : Tables) (vs : List ℕ) → Sound after → Variables vs → after.registers.running ≡ 1 → after.registers.next ≤ 4096 → (AreBytes t.store → AreBytes after.store)
       → CallAgrees t vars
-      (stepped (progress.Next after.registers) after.store after.frames after.bounds after.pointers vs)
+      (stepped (Ok (progress.Next after.registers)) after.store after.frames after.bounds after.pointers vs)
       (ok (went (record { memory = view after; running = true; place = after.registers.next; vars = variables_in vs })))
 
 -- whether the machine runs, and where, is no matter of the memory's
@@ -127,15 +126,15 @@ module _ (s : List ℕ) (t : Tables) (vars : List ℕ) (so : Sound t) (good : Va
   abbrev Agreed : Type 0
   Agreed = CallAgrees t vars (called_in t vars s k call f) (memory_part >>= rest)
 
-  no_room : (call_room s f t ≡ 0 → ⊥) → Agreed
+  no_room : (n : Refusal) → call_room s f t ≡ Err n → Agreed
   unfolding called_in ◌>>=◌
-  no_room n =
+  no_room n e =
       subst₂ (λ (w : Stepped) (b : Answer (Machine.Stepped Memory)). CallAgrees t vars w b)
-      (sym (simp (ne_eqb _ _ n)))
-      (sym (ap (λ o. o >>= rest) (enter-refused s f F.slots t so callee.count callee.slots call.to near to-small n (variables_in vars))))
-      (call-refused (call_room s f t))
+      (sym (rw e))
+      (sym (ap (λ o. o >>= rest) (enter-refused s f F.slots t so callee.count callee.slots call.to near to-small n e (variables_in vars))))
+      (call-refused n)
 
-  module _ (e : call_room s f t ≡ 0) where
+  module _ (e : call_room s f t ≡ Ok tt) where
     made : EnterMade s call.to f F.slots t
     made = enter-made s f F.slots t so callee.count callee.slots call.to near to-small e
 
@@ -151,12 +150,12 @@ module _ (s : List ℕ) (t : Tables) (vars : List ℕ) (so : Sound t) (good : Va
     unfolding called_in arrived ◌>>=◌
     by_variables a b i j (same-refusal n) =
         subst₂ (λ (w : Stepped) (b : Answer (Machine.Stepped Memory)). CallAgrees t vars w b)
-        (sym (simp (eq-eqb _ _ e, i)))
+        (sym (rw (e, i)))
         (sym (memory-made ∙ ap (λ o. o >>= finish (view made.after)) j))
         (call-refused n)
     by_variables a b i j (same-values vs v) =
         subst₂ (λ (w : Stepped) (b : Answer (Machine.Stepped Memory)). CallAgrees t vars w b)
-        (sym (simp (eq-eqb _ _ e, i, made.entered')))
+        (sym (rw (e, i, made.entered')))
         (sym (memory-made ∙ ap (λ o. o >>= finish (view made.after)) j ∙ ap (λ m. finish m (variables_in vs)) (sym (moved-seen made.after _ k))))
         (call-went (moved made.after made.after.registers.running k) vs (moved-sound made.after _ k made.sound) v (made.running ∙ runs) small made.bytes)
 
@@ -172,13 +171,13 @@ module _ (s : List ℕ) (t : Tables) (vars : List ℕ) (so : Sound t) (good : Va
         (rest_alike s call f F c callee inside read fits _ slots.good)
 
   pub in_agrees : Agreed
-  in_agrees = by_test (eqb (call_room s f t) 0) (λ w. roomy (eqb-true _ 0 w)) (λ w. no_room (eqb-false _ 0 w))
+  in_agrees = by_room (call_room s f t) roomy no_room
 
 -- the fields of this Call, as the believed machine takes them
 abbrev pub calling_of : Option Declared → Option Operand → (function : ℕ) → List Operand → Option ℕ → Calling
 calling_of to context function arguments returns = record { to = to_of to; context = context; function = function; arguments = arguments; returns = returns }
 
-pub entry_at : (labels : List ℕ) (f : Callee) {s : List ℕ} (F : Function) (k : ℕ) → CalleeRead s f F → F.entry < length labels → get_or labels F.entry 0 ≡ k → entry_of labels f ≡ place.At k
+pub entry_at : (labels : List ℕ) (f : Callee) {s : List ℕ} (F : Function) (k : ℕ) → CalleeRead s f F → F.entry < length labels → get_or labels F.entry 0 ≡ k → entry_of labels f ≡ Ok k
 unfolding entry_of
 entry_at labels f F k callee there label = simp (ne_eqb _ _ callee.there, callee.entry, lt-ltb _ _ there, label)
 
@@ -189,7 +188,7 @@ called_in_lem : (P : Program) (s labels functions : List ℕ) (t : Tables) (vars
 unfolding called_of
 called_in_lem P s labels functions t vars at c F k read callee there label =
     let f = callee_at s (place_in functions c.function) in
-    let e : entry_of labels f ≡ place.At k = entry_at labels f F k callee there label in
+    let e : entry_of labels f ≡ Ok k = entry_at labels f F k callee there label in
     sym (rw (ne_eqb _ _ read.there, read.callee, e))
 
 -- the frame returns to the next place, and to the variable `to`

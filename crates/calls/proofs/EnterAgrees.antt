@@ -1,20 +1,21 @@
--- A Call's memory part is the believed one: the room test answers the refusal of the push and of the slots, and where it answers 0 the tables after are the believed memory.
+-- A Call's memory part is the believed one: the room test answers the refusal of the push and of the slots, and where there is room the tables after are the believed memory.
+use Rattle.std.specs.Prelude.{Result, Ok, Err, ⊤}
 use Prim.Native.Nat.{ℕ, ◌+◌, ◌*◌, ◌<◌, ◌≤◌}
 use native.Mathlib.Omega.{arith}
 use mathlib.Core.Path.{◌≡◌, sym, ap, ◌∙◌}
 use mathlib.Core.List.{List}
 use lib.ListN.{length, get_or, set, length-set}
 use lib.Seq.{get_or-set_same}
-use lib.Dec.{leb, eqb}
-use borrow.Author.Tests.{eq-eqb, ne_eqb, le-ltb, leb-false, eqb-true, eqb-false}
-use Rattle.value.specs.Answer.{Answer, ok, refused, pick, ◌>>=◌}
+use lib.Dec.{leb}
+use borrow.Author.Tests.{eq-eqb, le-ltb, leb-false}
+use Rattle.value.specs.declared.refusal.Refusal.{Refusal}
+use Rattle.value.specs.Answer.{Answer, ok, refused, ◌>>=◌}
 use Rattle.value.specs.Refusal.{frames_full}
 use Rattle.image.specs.Program.{Slot}
+use Rattle.memory.specs.declared.Registers.{Registers}
 use Rattle.memory.specs.Memory.{Memory, push_frame}
 use Rattle.memory.specs.Tables.{Both, both, Tables, live, pushed_of}
 use Rattle.memory.specs.View.{view, back_in, after_push}
-use Rattle.memory.specs.declared.Moved.{Moved}
-use Rattle.memory.specs.declared.Moved.TheVariants as moved
 use Rattle.memory.proofs.Every.{by_test}
 use Rattle.memory.proofs.Facts.{Sound, ready_test}
 use Rattle.memory.proofs.Frames.{push_tables, push-view, push-sound}
@@ -23,46 +24,47 @@ use Rattle.machine.specs.Believed.{believed}
 use Rattle.calls.specs.Room.{frame_room_of, room_in_of, call_room_of, slots_room_of}
 use Rattle.calls.specs.Code.{entered, slots_made_of, entered_of}
 use Rattle.calls.specs.declared.fields.Callee.{Callee}
-use Rattle.calls.proofs.Rooms.{not_first, chosen_zero}
-use Rattle.calls.proofs.SlotsAgree.{SlotsRead, pointed, slots_number, slots-refused, slots-made}
+use Rattle.calls.proofs.Rooms.{by_room, not_first, both_done}
+use Rattle.calls.proofs.SlotsAgree.{SlotsRead, pointed, slots_room, slots-refused, slots-made}
 use Rattle.image.specs.Limits.{AreBytes}
 
 -- ---- the frame
 
-abbrev frame_number : Tables → ℕ
-frame_number t = frame_room_of t.registers.depth t.registers.counter
+abbrev frame_room : Tables → Result ⊤ Refusal
+frame_room t = frame_room_of t.registers.depth t.registers.counter
 
 module _ (t : Tables) (so : Sound t) (place variable : ℕ) where
-  by_room : pushed_of t.registers place variable t.frames
-      ≡ pick (eqb (frame_number t) 0) (both (moved.Done (push_tables t place variable).registers) (push_tables t place variable).frames) (both (moved.Refused (frame_number t)) t.frames)
+  -- where there is room for it
+  abbrev pushed_where : Result ⊤ Refusal → Both (Result Registers Refusal)
+  pushed_where (Ok u) = both (Ok (push_tables t place variable).registers) (push_tables t place variable).frames
+  pushed_where (Err n) = both (Err n) t.frames
+
+  where_frame : pushed_of t.registers place variable t.frames ≡ pushed_where (frame_room t)
   unfolding pushed_of frame_room_of
-  by_room =
+  where_frame =
       let l = eq-eqb _ _ so.ready.frames in
       by_test (leb 64 t.registers.depth)
       (λ w. simp (l, w))
       (λ w. by_test (leb 4294967295 t.registers.counter) (λ v. simp (l, w, v)) (λ v. simp (l, w, v)))
 
-  frame-stopped : (frame_number t ≡ 0 → ⊥) → pushed_of t.registers place variable t.frames ≡ both (moved.Refused (frame_number t)) t.frames
-  frame-stopped n = by_room ∙ simp (ne_eqb _ _ n)
-
-  frame_refused : (frame_number t ≡ 0 → ⊥) → push_frame (view t) (back_in place variable) ≡ refused (frame_number t)
+  frame_refused : (n : Refusal) → frame_room t ≡ Err n → push_frame (view t) (back_in place variable) ≡ refused n
   unfolding after_push
-  frame_refused n = sym (push-view t so place variable) ∙ ap (after_push t) (frame-stopped n)
+  frame_refused n e = sym (push-view t so place variable) ∙ ap (after_push t) (where_frame ∙ ap pushed_where e)
 
-  module _ (e : frame_number t ≡ 0) where
-    frame-given : pushed_of t.registers place variable t.frames ≡ both (moved.Done (push_tables t place variable).registers) (push_tables t place variable).frames
-    frame-given = by_room ∙ simp (eq-eqb _ _ e)
+  module _ (e : frame_room t ≡ Ok tt) where
+    frame-given : pushed_of t.registers place variable t.frames ≡ both (Ok (push_tables t place variable).registers) (push_tables t place variable).frames
+    frame-given = where_frame ∙ ap pushed_where e
 
     frame-seen : push_frame (view t) (back_in place variable) ≡ ok (view (push_tables t place variable))
     unfolding after_push
     frame-seen = sym (push-view t so place variable) ∙ ap (after_push t) frame-given
 
     frame-sound : place ≤ 4096 → variable ≤ 256 → Sound (push_tables t place variable)
-    frame-sound hp hv = rw frame-given at (push-sound t so place variable hp hv (push_tables t place variable).registers (ap (λ (b : Both Moved). b.answer) frame-given))
+    frame-sound hp hv = rw frame-given at (push-sound t so place variable hp hv (push_tables t place variable).registers (ap (λ (b : Both (Result Registers Refusal)). b.answer) frame-given))
 
     not_deep : t.registers.depth < 64
     unfolding frame_room_of
-    not_deep = leb-false 64 t.registers.depth (not_first (leb 64 t.registers.depth) frames_full _ (λ z. omega arith) e).0
+    not_deep = leb-false 64 t.registers.depth (not_first (leb 64 t.registers.depth) frames_full _ e).0
 
     live_same : live (push_tables t place variable) ≡ live t
     live_same =
@@ -78,21 +80,21 @@ module _ (t : Tables) (so : Sound t) (place variable : ℕ) where
 -- what a Call with room makes: tables that are sound again and are the believed memory
 pub record EnterMade (s : List ℕ) (to : ℕ) (f : Callee) (xs : List Slot) (t : Tables) : Type 0 where
   pub after : Tables
-  pub entered' : entered_of s to f t ≡ entered (moved.Done after.registers) after.store after.frames after.bounds after.pointers
+  pub entered' : entered_of s to f t ≡ entered (Ok after.registers) after.store after.frames after.bounds after.pointers
   pub sound : Sound after
   pub seen : (vs : Vars) → (push_frame (view t) (back_in t.registers.next to) >>= λ m. make_slots believed xs m vs) ≡ ok (view after, pointed xs t.registers.pointers vs)
   pub running : after.registers.running ≡ t.registers.running
   pub bytes : AreBytes t.store → AreBytes after.store
 
-abbrev pub room_in : (image : List ℕ) → Callee → Tables → ℕ
+abbrev pub room_in : (image : List ℕ) → Callee → Tables → Result ⊤ Refusal
 room_in s f t = room_in_of t.registers s f (length t.store) t.frames t.bounds (length t.pointers)
 
-abbrev pub call_room : (image : List ℕ) → Callee → Tables → ℕ
+abbrev pub call_room : (image : List ℕ) → Callee → Tables → Result ⊤ Refusal
 call_room s f t = call_room_of t.registers s f (length t.store) t.frames t.bounds (length t.pointers)
 
 module _ (s : List ℕ) (f : Callee) (xs : List Slot) (t : Tables) (so : Sound t) (counted : f.count ≡ length xs) where
   -- a start's slots are tested as the believed memory's are made
-  pub room_in_lem : room_in s f t ≡ slots_number s f.slots xs t
+  pub room_in_lem : room_in s f t ≡ slots_room s f.slots xs t
   unfolding room_in_of
   room_in_lem = simp (ready_test _ _ _ _ _ _ so.ready, le-ltb 512 (live t) so.few, counted)
 
@@ -103,43 +105,41 @@ module _ (s : List ℕ) (f : Callee) (xs : List Slot) (t : Tables) (so : Sound t
     abbrev on : Vars → Memory → Answer (Memory × Vars)
     on vs m = make_slots believed xs m vs
 
-    slots_same : (e : frame_number t ≡ 0) → call_room s f t ≡ slots_number s f.slots xs (push_tables t place to)
+    slots_same : (e : frame_room t ≡ Ok tt) → call_room s f t ≡ slots_room s f.slots xs (push_tables t place to)
     unfolding call_room_of
     slots_same e =
-        simp (eq-eqb _ _ e)
+        rw e
         (room_in_lem ∙ sym (ap (λ k. slots_room_of s (length xs) f.slots k (get_or t.bounds k 0) t.registers.pointers) (live_same t so place to e)))
 
-    frame-first : (frame_number t ≡ 0 → ⊥) → call_room s f t ≡ frame_number t
+    frame-first : (n : Refusal) → frame_room t ≡ Err n → call_room s f t ≡ Err n
     unfolding call_room_of
-    frame-first n = simp (ne_eqb _ _ n)
+    frame-first n e = rw e
 
-    frame-room : call_room s f t ≡ 0 → frame_number t ≡ 0
+    frame-room : call_room s f t ≡ Ok tt → frame_room t ≡ Ok tt
     unfolding call_room_of
-    frame-room e = (chosen_zero (frame_number t) _ e).0
+    frame-room e = (both_done (frame_room t) _ e).0
 
-    seen-frame : (vs : Vars) → frame_number t ≡ 0 → (push_frame (view t) (back_in place to) >>= on vs) ≡ on vs (view (push_tables t place to))
+    seen-frame : (vs : Vars) → frame_room t ≡ Ok tt → (push_frame (view t) (back_in place to) >>= on vs) ≡ on vs (view (push_tables t place to))
     unfolding ◌>>=◌
     seen-frame vs e = ap (λ a. a >>= on vs) (frame-seen t so place to e)
 
-    seen_none : (vs : Vars) → (frame_number t ≡ 0 → ⊥) → (push_frame (view t) (back_in place to) >>= on vs) ≡ refused (frame_number t)
+    seen_none : (vs : Vars) (n : Refusal) → frame_room t ≡ Err n → (push_frame (view t) (back_in place to) >>= on vs) ≡ refused n
     unfolding ◌>>=◌
-    seen_none vs n = ap (λ a. a >>= on vs) (frame_refused t so place to n)
+    seen_none vs n e = ap (λ a. a >>= on vs) (frame_refused t so place to n e)
 
-    made-frame : frame_number t ≡ 0 → entered_of s to f t ≡ slots_made_of s (length xs) f.slots (push_tables t place to)
+    made-frame : frame_room t ≡ Ok tt → entered_of s to f t ≡ slots_made_of s (length xs) f.slots (push_tables t place to)
     unfolding entered_of
     made-frame e = rw (frame-given t so place to e, counted)
 
     module _ (hp : place ≤ 4096) (hv : to ≤ 256) where
       -- the room test answers what the push and the slots are refused with
-      pub enter-refused : (call_room s f t ≡ 0 → ⊥) → (vs : Vars) → (push_frame (view t) (back_in place to) >>= on vs) ≡ refused (call_room s f t)
-      enter-refused n vs =
-          by_test (eqb (frame_number t) 0)
-          (λ w. let e = eqb-true _ 0 w in
-          let d = slots_same e in
-          seen-frame vs e ∙ slots-refused s xs f.slots (push_tables t place to) (frame-sound t so place to e hp hv) read (λ z. n (d ∙ z)) vs ∙ ap refused (sym d))
-          (λ w. let e = eqb-false _ 0 w in seen_none vs e ∙ ap refused (sym (frame-first e)))
+      pub enter-refused : (n : Refusal) → call_room s f t ≡ Err n → (vs : Vars) → (push_frame (view t) (back_in place to) >>= on vs) ≡ refused n
+      enter-refused n e vs =
+          by_room (frame_room t)
+          (λ d. seen-frame vs d ∙ slots-refused s xs f.slots (push_tables t place to) (frame-sound t so place to d hp hv) read n (sym (slots_same d) ∙ e) vs)
+          (λ k d. seen_none vs n (d ∙ sym (frame-first k d) ∙ e))
 
-      pub enter-made : call_room s f t ≡ 0 → EnterMade s to f xs t
+      pub enter-made : call_room s f t ≡ Ok tt → EnterMade s to f xs t
       enter-made e =
           let z = frame-room e in
           let slots = slots-made s xs f.slots (push_tables t place to) (frame-sound t so place to z hp hv) read (sym (slots_same z) ∙ e) in

@@ -1,33 +1,33 @@
 -- One turn of each loop that passes fields over: the laws that the proofs of the fields' functions share.
-use Prim.Native.Nat.{ℕ, zero, suc, ◌-◌, ◌<◌}
-use native.Mathlib.Numerals.{sub-one}
+use Prim.Native.Nat.{ℕ, suc, ◌+◌, ◌-◌, ◌<◌, ◌≤◌}
 use native.Mathlib.Omega.{arith}
-use mathlib.Core.Path.{◌≡◌, refl}
+use mathlib.Core.Path.{◌≡◌}
 use mathlib.Core.List.{List}
 use Rattle.instruction.specs.Decode.{field_at, operand_at}
-use Rattle.instruction.specs.declared.field.Field.{Field}
-use Rattle.instruction.specs.declared.field.Operand.{Operand}
 use Rattle.calls.specs.Fields.{numbers_skipped, operands_skipped}
+
+-- of n turns, one fewer is left after turn k
+pub one_fewer : (n k : ℕ) → k < n → n - k ≡ suc (n - (k + 1))
+one_fewer n k h = omega arith
+
+pub none_left : (n k : ℕ) → n ≤ k → n - k ≡ 0
+none_left n k h = omega arith
 
 module _ (s : List ℕ) where
   -- ---- numbers and operands passed over
 
-  pub numbers_on : (n at : ℕ) (x : Field) → 0 < n → x ≡ field_at s at → numbers_skipped s (n - 1) x.next ≡ numbers_skipped s n at
+  pub number_passed : (n k at : ℕ) → k < n → numbers_skipped s (n - (k + 1)) (field_at s at).next ≡ numbers_skipped s (n - k) at
   unfolding numbers_skipped
-  numbers_on zero at x p e = absurd (omega arith)
-  numbers_on (suc n) at x p e = simp (← e, sub-one)
+  number_passed n k at h = rw (one_fewer n k h)
 
-  pub numbers-none : (n at : ℕ) → n ≡ 0 → numbers_skipped s n at ≡ at
+  pub numbers_passed : (n k at : ℕ) → n ≤ k → numbers_skipped s (n - k) at ≡ at
   unfolding numbers_skipped
-  numbers-none zero at e = refl
-  numbers-none (suc n) at e = absurd (omega arith)
+  numbers_passed n k at h = rw (none_left n k h)
 
-  pub operands_on : (n at : ℕ) (x : Operand) → 0 < n → x ≡ operand_at s at → operands_skipped s (n - 1) x.next ≡ operands_skipped s n at
+  pub operand_passed : (n k at : ℕ) → k < n → operands_skipped s (n - (k + 1)) (operand_at s at).next ≡ operands_skipped s (n - k) at
   unfolding operands_skipped
-  operands_on zero at x p e = absurd (omega arith)
-  operands_on (suc n) at x p e = simp (← e, sub-one)
+  operand_passed n k at h = rw (one_fewer n k h)
 
-  pub operands_none : (n at : ℕ) → n ≡ 0 → operands_skipped s n at ≡ at
+  pub operands_passed : (n k at : ℕ) → n ≤ k → operands_skipped s (n - k) at ≡ at
   unfolding operands_skipped
-  operands_none zero at e = refl
-  operands_none (suc n) at e = absurd (omega arith)
+  operands_passed n k at h = rw (none_left n k h)

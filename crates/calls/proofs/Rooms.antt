@@ -1,13 +1,15 @@
 -- Room for slots: one turn of the loop, and that slots with room do not run out of pointer numbers.
+use Rattle.std.specs.Prelude.{Result, Ok, Err, ⊤}
+use Rattle.std.specs.Result.{result_and}
 use Prim.Native.Nat.{ℕ, zero, suc, ◌+◌, ◌-◌, ◌*◌, ◌<◌, ◌≤◌}
-use native.Mathlib.Numerals.{sub-one}
 use native.Mathlib.Omega.{arith}
 use mathlib.Core.Bool.{Bool, true, false}
 use mathlib.Core.Path.{◌≡◌, refl}
 use mathlib.Core.List.{List}
-use borrow.Author.Tests.{eq-eqb, ne_eqb, ltb-false, leb-false}
+use borrow.Author.Tests.{ltb-false, leb-false}
 use lib.ListN.{length, get_or}
-use lib.Dec.{ltb, leb, eqb}
+use lib.Dec.{ltb, leb}
+use Rattle.value.specs.declared.refusal.Refusal.{Refusal}
 use Rattle.value.specs.Answer.{pick}
 use Rattle.value.specs.Refusal.{not_sound, allocations_full, bytes_full, pointers_full}
 use Rattle.memory.specs.Tables.{ready_of, room_of}
@@ -17,80 +19,89 @@ use Rattle.calls.specs.Fields.{slot_at}
 use Rattle.calls.specs.Room.{frame_room_of, slot_room_of, slots_room_of, room_in_of, call_room_of}
 use Rattle.calls.specs.declared.fields.Slot.{Slot}
 use Rattle.calls.specs.declared.fields.Callee.{Callee}
+use Rattle.calls.proofs.Laws.{one_fewer, none_left}
+
+-- ---- answers of tests
+
+-- a refusal is not done
+pub not_done : (n : Refusal) → ◌≡◌ {A = Result ⊤ Refusal} (Err n) (Ok tt) → ⊥
+not_done n e = let z : ◌≡◌ {A = ℕ} 0 1 = cc in omega arith
+
+-- a test is done, or refused
+pub by_room : {P : Type 0} (r : Result ⊤ Refusal) → (r ≡ Ok tt → P) → ((n : Refusal) → r ≡ Err n → P) → P
+by_room (Ok u) f g = f refl
+by_room (Err n) f g = g n refl
+
+-- a refusal or the rest, where all is done
+pub not_first : (b : Bool) (n : Refusal) (rest : Result ⊤ Refusal) → pick b (Err n) rest ≡ Ok tt → (b ≡ false) × (rest ≡ Ok tt)
+not_first true n rest e = absurd (not_done n e)
+not_first false n rest e = (refl, e)
+
+-- two tests that are done, one after the other
+pub both_done : (r rest : Result ⊤ Refusal) → result_and r rest ≡ Ok tt → (r ≡ Ok tt) × (rest ≡ Ok tt)
+both_done (Ok u) rest e = (refl, e)
+both_done (Err n) rest e = absurd (not_done n e)
 
 module _ (s : List ℕ) where
   -- ---- room for slots
 
-  pub room_on : (n at l u g number : ℕ) (x : Slot) → 0 < n → x ≡ slot_at s at → number ≡ slot_room_of l u g x.size → number ≡ 0
-      → slots_room_of s (n - 1) x.next (l + 1) (u + x.size) (g + 1) ≡ slots_room_of s n at l u g
+  pub room_on : (n k at l u g : ℕ) → k < n → slot_room_of l u g (slot_at s at).size ≡ Ok tt
+      → slots_room_of s (n - (k + 1)) (slot_at s at).next (l + 1) (u + (slot_at s at).size) (g + 1) ≡ slots_room_of s (n - k) at l u g
   unfolding slots_room_of
-  room_on zero at l u g number x p e r z = absurd (omega arith)
-  room_on (suc n) at l u g number x p e r z = simp (← e, ← r, eq-eqb _ _ z, sub-one)
+  room_on n k at l u g h r = rw (one_fewer n k h, r)
 
-  pub room_stop : (n at l u g number : ℕ) (x : Slot) → 0 < n → x ≡ slot_at s at → number ≡ slot_room_of l u g x.size → (number ≡ 0 → ⊥) → number ≡ slots_room_of s n at l u g
+  pub room_stop : (n k at l u g : ℕ) (x : Slot) (why : Refusal) → k < n → x ≡ slot_at s at → Err why ≡ slot_room_of l u g x.size → Err why ≡ slots_room_of s (n - k) at l u g
   unfolding slots_room_of
-  room_stop zero at l u g number x p e r z = absurd (omega arith)
-  room_stop (suc n) at l u g number x p e r z = simp (← e, ← r, ne_eqb _ _ z)
+  room_stop n k at l u g x why h e r = rw (one_fewer n k h, ← e, ← r)
 
-  pub room-none : (n at l u g : ℕ) → n ≡ 0 → slots_room_of s n at l u g ≡ 0
+  pub room_none : (n k at l u g : ℕ) → n ≤ k → slots_room_of s (n - k) at l u g ≡ Ok tt
   unfolding slots_room_of
-  room-none zero at l u g e = refl
-  room-none (suc n) at l u g e = absurd (omega arith)
+  room_none n k at l u g h = rw (none_left n k h)
 
 -- ---- what room for a slot says
-
--- a choice that is 0, between a number that is not and the rest
-pub not_first : (b : Bool) (n rest : ℕ) → (n ≡ 0 → ⊥) → pick b n rest ≡ 0 → (b ≡ false) × (rest ≡ 0)
-not_first true n rest h e = absurd (h e)
-not_first false n rest h e = (refl, e)
 
 pub record Fits (l u g size : ℕ) : Type 0 where
   pub live : l < 512
   pub used : u + size ≤ 32768
   pub given : g < 4096
 
-pub slot-fits : (l u g size : ℕ) → slot_room_of l u g size ≡ 0 → Fits l u g size
+pub slot_fits : (l u g size : ℕ) → slot_room_of l u g size ≡ Ok tt → Fits l u g size
 unfolding slot_room_of room_of
-slot-fits l u g size e =
-    let a = not_first (leb 512 l) allocations_full _ (λ z. omega arith) e in
-    let b = not_first (ltb 32768 u) bytes_full _ (λ z. omega arith) a.1 in
-    let d = not_first (ltb (32768 - u) size) bytes_full _ (λ z. omega arith) b.1 in
-    let f = not_first (leb 4096 g) pointers_full 0 (λ z. omega arith) d.1 in
+slot_fits l u g size e =
+    let a = not_first (leb 512 l) allocations_full _ e in
+    let b = not_first (ltb 32768 u) bytes_full _ a.1 in
+    let d = not_first (ltb (32768 - u) size) bytes_full _ b.1 in
+    let f = not_first (leb 4096 g) pointers_full _ d.1 in
     record {
       live = leb-false 512 l a.0;
       used = omega (arith, ltb-false 32768 u b.0, ltb-false (32768 - u) size d.0);
       given = leb-false 4096 g f.0;
     }
 
--- a number that is 0, and then the rest
-pub chosen_zero : (number rest : ℕ) → pick (eqb number 0) rest number ≡ 0 → (number ≡ 0) × (rest ≡ 0)
-chosen_zero zero rest e = (refl, e)
-chosen_zero (suc k) rest e = absurd (let z : suc k ≡ 0 = rw (ne_eqb (suc k) 0 (λ d. omega arith)) at e in omega arith)
-
 -- slots that have room do not run out of pointer numbers
-pub slots-given : (s : List ℕ) (n at l u g : ℕ) → slots_room_of s n at l u g ≡ 0 → g ≤ 4096 → g + n ≤ 4096
+pub slots-given : (s : List ℕ) (n at l u g : ℕ) → slots_room_of s n at l u g ≡ Ok tt → g ≤ 4096 → g + n ≤ 4096
 unfolding slots_room_of
 slots-given s zero at l u g e h = omega arith
 slots-given s (suc n) at l u g e h =
-    let z = chosen_zero (slot_room_of l u g (slot_at s at).size) _ e in
-    let f = (slot-fits l u g _ z.0).given in
+    let z = both_done (slot_room_of l u g (slot_at s at).size) _ e in
+    let f = (slot_fits l u g _ z.0).given in
     omega (arith, slots-given s n _ _ _ (g + 1) z.1 (omega arith))
 
 -- ---- room in the tables
 
 module _ (m : Registers) (s : List ℕ) (f : Callee) (store : ℕ) (fr bo : List ℕ) (pointers : ℕ) where
-  in_ready : (b : Bool) (rest : ℕ) → pick b rest not_sound ≡ 0 → (b ≡ true) × (rest ≡ 0)
+  in_ready : (b : Bool) (rest : Result ⊤ Refusal) → pick b rest (Err not_sound) ≡ Ok tt → (b ≡ true) × (rest ≡ Ok tt)
   in_ready true rest e = (refl, e)
-  in_ready false rest e = absurd (omega arith)
+  in_ready false rest e = absurd (not_done not_sound e)
 
   -- a function whose slots have room does not run out of pointer numbers
-  pub room-given : room_in_of m s f store fr bo pointers ≡ 0 → m.pointers + f.count ≤ 4096
+  pub room_given : room_in_of m s f store fr bo pointers ≡ Ok tt → m.pointers + f.count ≤ 4096
   unfolding room_in_of
-  room-given e =
+  room_given e =
       let a = in_ready (ready_of m.depth m.pointers store (length fr) (length bo) pointers) _ e in
-      let b = not_first (ltb 512 (get_or fr (m.depth * 4 + 3) 0)) not_sound _ (λ z. omega arith) a.1 in
+      let b = not_first (ltb 512 (get_or fr (m.depth * 4 + 3) 0)) not_sound _ a.1 in
       slots-given s f.count f.slots _ _ m.pointers b.1 (ready_of_lem _ _ _ _ _ _ a.0).given
 
-  pub call_room_given : call_room_of m s f store fr bo pointers ≡ 0 → m.pointers + f.count ≤ 4096
+  pub call_room_given : call_room_of m s f store fr bo pointers ≡ Ok tt → m.pointers + f.count ≤ 4096
   unfolding call_room_of
-  call_room_given e = room-given (chosen_zero (frame_room_of m.depth m.counter) _ e).1
+  call_room_given e = room_given (both_done (frame_room_of m.depth m.counter) _ e).1

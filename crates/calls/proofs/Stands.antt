@@ -11,6 +11,7 @@ use borrow.Author.Tests.{lt-leb, ne_eqb}
 use Rattle.image.specs.Program.{Operand, Slot, Declared, Program, Function, function_at, place_of, Call}
 use Rattle.image.specs.Written.{Piece, num}
 use Rattle.image.specs.Written as W
+use Rattle.std.specs.Prelude as P
 use Rattle.image.specs.Standing.{Stand}
 use Rattle.memory.specs.Tables.{Tables}
 use Rattle.memory.specs.View.{view, variables_in}
@@ -24,7 +25,7 @@ use Rattle.instruction.specs.declared.field.Operand as code
 use Rattle.instruction.proofs.Decoded.{as_read}
 use Rattle.instruction.proofs.Values.{Variables}
 use Rattle.instruction.proofs.Fields.{field-stands, operand-stands}
-use Rattle.calls.specs.Fields.{numbers_skipped, operands_skipped, one_more, optional_variable, optional_to, optional_operand, slot_at, call_at, callee_at, place_in}
+use Rattle.calls.specs.Fields.{numbers_skipped, operands_skipped, one_more, variable_of, optional_variable, optional_to, optional_operand, slot_at, call_at, callee_at, place_in}
 use Rattle.calls.specs.Code.{called_of}
 use Rattle.calls.specs.declared.fields.Spot.{Spot}
 use Rattle.calls.proofs.SlotsAgree.{SlotsRead}
@@ -85,15 +86,15 @@ module _ (s : List ℕ) where
 
   -- where an optional operand stands, and the place after it
   abbrev ContextAt : (at : ℕ) → Option Operand → (next : ℕ) → Type 0
-  ContextAt at o next = (start : ℕ) × (optional_operand s at ≡ record { start = start; next = next }) × ContextRead s start o
+  ContextAt at o next = (start : P.Option ℕ) × (optional_operand s at ≡ record { start = start; next = next }) × ContextRead s start o
 
   context-stands : (at : ℕ) (o : Option Operand) (ps : List Piece) (e : ℕ) → 0 < at → Stand s at (W.maybe W.operand o ++ ps) e → Then (ContextAt at o) ps e
   unfolding optional_operand
-  context-stands at none ps e l st = onward (number-stands at 0 ps e l st) (λ next r p rest. stood next (0, rw r, refl) p rest)
+  context-stands at none ps e l st = onward (number-stands at 0 ps e l st) (λ next r p rest. stood next (P.None, rw r, refl) p rest)
   context-stands at (some o) ps e l st =
       onward (number-stands at 1 (W.operand o ++ ps) e l st)
       (λ m r p rest. onward (operand_there m o ps e p rest)
-      (λ next q a more. stood next (m, rw (r, q, read_next o next), ((λ z. omega arith), (next, (q, a)))) a more))
+      (λ next q a more. stood next (P.Some m, rw (r, q, read_next o next), (m, refl, (next, (q, a)))) a more))
 
   -- ---- one item after another
 
@@ -126,7 +127,7 @@ module _ (s : List ℕ) where
   call-read : (at : ℕ) (to : Field) (context : Spot) (callee given : Field) (after : ℕ) (pointer : Field)
       → optional_to s at ≡ to → optional_operand s to.next ≡ context → field_at s context.next ≡ callee → field_at s callee.next ≡ given
       → operands_skipped s given.value given.next ≡ after → optional_variable s after ≡ pointer
-      → call_at s at ≡ record { to = to.value; context = context.start; callee = callee.value; given = given.value; arguments = given.next; pointer = pointer.value; next = pointer.next }
+      → call_at s at ≡ record { to = to.value; context = context.start; callee = callee.value; given = given.value; arguments = given.next; pointer = variable_of pointer.value; next = pointer.next }
   unfolding call_at
   call-read at to context callee given after pointer a b c d e f = cc
 
@@ -146,7 +147,7 @@ module _ (s : List ℕ) where
   unfolding callee_at
   callee-read at kind entry result context flag wanted after count a b c d e f g h = cc
 
-  call-found : (at : ℕ) (to : Option Declared) (context : Option Operand) (f : ℕ) (os : List Operand) (returns : Option ℕ) (a start b c d g n : ℕ)
+  call-found : (at : ℕ) (to : Option Declared) (context : Option Operand) (f : ℕ) (os : List Operand) (returns : Option ℕ) (a : ℕ) (start : P.Option ℕ) (b c d g n : ℕ)
       → optional_to s at ≡ field (variable_out (to_of to)) a → optional_operand s a ≡ record { start = start; next = b } → field_at s b ≡ field f c → field_at s c ≡ field (length os) d
       → operands_skipped s (length os) d ≡ g → optional_variable s g ≡ field (variable_out returns) n → ContextRead s start context → OperandsRead s d os → 0 < n
       → CallRead s (call_at s at) (calling_of to context f os returns)

@@ -1,4 +1,5 @@
 -- A start agrees with the believed machine, once the checks of its entry are made: on sound idle tables it is refused with the same number and nothing has changed, or the tables after show the believed machine's state.
+use Rattle.std.specs.Prelude.{Result, Ok, Err, ⊤}
 use Prim.Native.Nat.{ℕ, ◌+◌, ◌*◌, ◌<◌, ◌≤◌}
 use native.Mathlib.Omega.{arith}
 use mathlib.Core.Bool.{Bool, true, false}
@@ -6,7 +7,8 @@ use mathlib.Core.Path.{◌≡◌, refl, sym, ap, ap₂, ◌∙◌, subst, subst�
 use mathlib.Core.List.{List, [], ◌∷◌}
 use lib.ListN.{length, get_or, replicate, length-replicate}
 use lib.Dec.{ltb, eqb}
-use borrow.Author.Tests.{eq-eqb, ne_eqb, eqb-true, eqb-false}
+use borrow.Author.Tests.{eq-eqb, ne_eqb}
+use Rattle.value.specs.declared.refusal.Refusal.{Refusal}
 use Rattle.value.specs.Answer.{Answer, ok, refused, need, ◌>>=◌}
 use Rattle.value.specs.Value.{Value, tag}
 use Rattle.image.specs.Program.{Program, Function, function_at, place_of}
@@ -15,10 +17,7 @@ use Rattle.memory.specs.Memory.{Memory}
 use Rattle.memory.specs.Stored.{stored_value}
 use Rattle.memory.specs.Tables.{Tables, stored_ok, variable_ok}
 use Rattle.memory.specs.View.{view, variables_in}
-use Rattle.memory.specs.declared.Place.TheVariants as place
-use Rattle.memory.specs.declared.Moved.TheVariants as moved
 use Rattle.memory.proofs.Beginning.{zeros}
-use Rattle.memory.proofs.Every.{by_test}
 use Rattle.memory.proofs.Facts.{Sound}
 use Rattle.memory.proofs.Stored.{stored-none}
 use Rattle.machine.specs.Machine.{Vars, Machine, unset, set_to, all_good, set_values, set_started, make_slots, start}
@@ -33,11 +32,11 @@ use Rattle.instruction.proofs.Values.{Variables, variable-set, variables-kept}
 use Rattle.instruction.specs.Storage.{unstepped}
 use Rattle.calls.specs.Fields.{callee_at, place_in, entry_of}
 use Rattle.calls.specs.Variables.{slots_pointed}
-use Rattle.calls.specs.Code.{entered, slots_made_of}
-use Rattle.calls.specs.Begin.{values_set, flagged_set, started_set, variables_set, ran_at, begun_in, begun_of, tags_of, bits_of}
+use Rattle.calls.specs.Code.{Entered, entered, slots_made_of, where_room}
+use Rattle.calls.specs.Begin.{values_set, flagged_set, started_set, variables_set, ran_at, with_slots, begun_in, begun_of, tags_of, bits_of}
 use Rattle.calls.specs.declared.fields.Callee.{Callee}
-use Rattle.calls.proofs.Rooms.{room-given}
-use Rattle.calls.proofs.SlotsAgree.{pointed, slots_number, slots-refused, slots-made}
+use Rattle.calls.proofs.Rooms.{by_room, room_given}
+use Rattle.calls.proofs.SlotsAgree.{pointed, slots_room, slots-refused, slots-made}
 use Rattle.calls.proofs.EnterAgrees.{room_in, room_in_lem}
 use Rattle.calls.proofs.VariablesAgree.{ParametersRead, ParametersFit, slots-pointed, CalleeRead, FunctionFits}
 use Rattle.calls.proofs.CallAgrees.{moved-sound, moved-seen, entry_at}
@@ -127,10 +126,10 @@ module _ (s : List ℕ) (f : Callee) (F : Function) (callee : CalleeRead s f F) 
 
 -- "A refusal leaves state and lent buffers untouched"; else the tables after are sound, run, and show the believed machine's state
 pub data StartAgrees (t : Tables) (vars : List ℕ) : Stepped → Answer (Machine Memory) → Type 0 where
-  start-refused : (n : ℕ) → StartAgrees t vars (unstepped t vars n) (refused n)
+  start-refused : (n : Refusal) → StartAgrees t vars (unstepped t vars n) (refused n)
   start-went : (after : Tables) (vs : List ℕ) → Sound after → Variables vs → after.registers.running ≡ 1 → after.registers.next ≤ 4096 → (AreBytes t.store → AreBytes after.store)
       → StartAgrees t vars
-      (stepped (progress.Next after.registers) after.store after.frames after.bounds after.pointers vs)
+      (stepped (Ok (progress.Next after.registers)) after.store after.frames after.bounds after.pointers vs)
       (ok (record { memory = view after; running = true; place = after.registers.next; vars = variables_in vs }))
 
 module _ (s : List ℕ) (t : Tables) (vars : List ℕ) (so : Sound t) (counted : length vars ≡ 512) (F : Function) (f : Callee) (callee : CalleeRead s f F) (inside : FunctionFits F)
@@ -150,35 +149,35 @@ module _ (s : List ℕ) (t : Tables) (vars : List ℕ) (so : Sound t) (counted :
   abbrev Agreed : Type 0
   Agreed = StartAgrees t vars begun (make_slots believed F.slots (view t) before >>= finish)
 
-  number_same : room_in s f t ≡ slots_number s f.slots F.slots t
-  number_same = room_in_lem s f F.slots t so callee.count
+  room_same : room_in s f t ≡ slots_room s f.slots F.slots t
+  room_same = room_in_lem s f F.slots t so callee.count
 
-  no_room : (room_in s f t ≡ 0 → ⊥) → Agreed
+  no_room : (n : Refusal) → room_in s f t ≡ Err n → Agreed
   unfolding begun_in ◌>>=◌
-  no_room n =
+  no_room n e =
       subst₂ (λ (w : Stepped) (b : Answer (Machine Memory)). StartAgrees t vars w b)
-      (sym (simp (ne_eqb _ _ n)))
-      (sym (ap (λ o. o >>= finish) (slots-refused s F.slots f.slots t so callee.slots (λ z. n (number_same ∙ z)) before ∙ ap refused (sym number_same))))
-      (start-refused (room_in s f t))
+      (sym (rw e))
+      (sym (ap (λ o. o >>= finish) (slots-refused s F.slots f.slots t so callee.slots n (sym room_same ∙ e) before)))
+      (start-refused n)
 
-  roomy : room_in s f t ≡ 0 → Agreed
+  roomy : room_in s f t ≡ Ok tt → Agreed
   unfolding begun_in ran_at ◌>>=◌
   roomy e =
-      let made = slots-made s F.slots f.slots t so callee.slots (sym number_same ∙ e) in
-      let g = room-given t.registers s f (length t.store) t.frames t.bounds (length t.pointers) e in
+      let made = slots-made s F.slots f.slots t so callee.slots (sym room_same ∙ e) in
+      let g = room_given t.registers s f (length t.store) t.frames t.bounds (length t.pointers) e in
       let n = callee.count in
       let shows = variables-shown s f F callee inside gs h context good t.registers.pointers vars counted (omega arith) in
       let vs = variables_set s f context_found (tags_of gs) (bits_of gs) t.registers.pointers vars in
       let after = made.after in
-      let slots : slots_made_of s f.count f.slots t ≡ entered (moved.Done after.registers) after.store after.frames after.bounds after.pointers =
+      let slots : slots_made_of s f.count f.slots t ≡ entered (Ok after.registers) after.store after.frames after.bounds after.pointers =
       ap (λ j. slots_made_of s j f.slots t) n ∙ made.made' in
       subst₂ (λ (w : Stepped) (b : Answer (Machine Memory)). StartAgrees t vars w b)
-      (sym (simp (eq-eqb _ _ e, slots)))
+      (sym (ap (λ (r : Result ⊤ Refusal). where_room r t vars (with_slots k (slots_made_of s f.count f.slots t) vs)) e ∙ ap (λ (w : Entered). with_slots k w vs) slots))
       (sym (ap (λ o. o >>= finish) (made.seen before) ∙ ap₂ (λ m ws. finish (m, ws)) (sym (moved-seen after 1 k)) (sym shows.shown)))
       (start-went (Call.moved after 1 k) vs (moved-sound after 1 k made.sound) shows.good refl small made.bytes)
 
   pub begin_in_agrees : Agreed
-  begin_in_agrees = by_test (eqb (room_in s f t) 0) (λ w. roomy (eqb-true _ 0 w)) (λ w. no_room (eqb-false _ 0 w))
+  begin_in_agrees = by_room (room_in s f t) roomy no_room
 
 -- the function leads to its place
 begun_in_lem : (s labels functions : List ℕ) (t : Tables) (vars : List ℕ) (number : ℕ) (context : Found) (ts bs : List ℕ) (F : Function) (k : ℕ)
@@ -186,7 +185,7 @@ begun_in_lem : (s labels functions : List ℕ) (t : Tables) (vars : List ℕ) (n
     → begun_in t vars s k (callee_at s (place_in functions number)) context ts bs ≡ begun_of t vars s labels functions number context ts bs
 unfolding begun_of
 begun_in_lem s labels functions t vars number context ts bs F k callee there label =
-    let e : entry_of labels (callee_at s (place_in functions number)) ≡ place.At k = entry_at labels _ F k callee there label in
+    let e : entry_of labels (callee_at s (place_in functions number)) ≡ Ok k = entry_at labels _ F k callee there label in
     sym (rw e)
 
 same_start : {t : Tables} {vars : List ℕ} {w w' : Stepped} {b : Answer (Machine Memory)} → w ≡ w' → StartAgrees t vars w b → StartAgrees t vars w' b

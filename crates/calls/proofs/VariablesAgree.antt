@@ -1,15 +1,13 @@
 -- A Call's variables are the believed machine's: where a part is refused, so is the believed one with the same number, and where none is, the table after shows the believed variables.
-use Prim.Native.Nat.{ℕ, suc, ◌+◌, ◌<◌, ◌≤◌}
-use native.Mathlib.Numerals.{sub-one}
+use Prim.Native.Nat.{ℕ, ◌+◌, ◌<◌, ◌≤◌}
 use native.Mathlib.Omega.{arith}
 use mathlib.Core.Path.{◌≡◌, refl, ap, ◌∙◌, subst}
 use mathlib.Core.List.{List, [], ◌∷◌}
 use mathlib.Core.Option.{Option, none, some}
 use lib.ListN.{length}
-use borrow.Author.Tests.{eq-eqb, ne_eqb}
+use Rattle.value.specs.declared.refusal.Refusal.{Refusal}
 use Rattle.value.specs.Answer.{Answer, ok, refused, ◌>>=◌}
 use Rattle.value.specs.Value.{Value, value, tag, pointer}
-use Rattle.value.proofs.Tags.{tag-some}
 use Rattle.image.specs.Program.{Operand, variable, literal, Slot, Function}
 use Rattle.image.specs.Written.{flag_number}
 use Rattle.memory.specs.View.{variables_in}
@@ -22,14 +20,16 @@ use Rattle.instruction.specs.Variables.{found, set_variable, read_variable, eval
 use Rattle.instruction.proofs.Decoded.{as_read}
 use Rattle.instruction.proofs.Values.{Variables, Fits, operand-found, operand-good, variable-set, variables-kept}
 use Rattle.calls.specs.Variables.{slots_pointed, found_set, arguments_set, context_set, pointer_set, context_on, pointer_on}
-use Rattle.calls.specs.declared.fields.Slot as code
+use Rattle.std.specs.Prelude as code
+use Rattle.calls.specs.Fields.{variable_of}
+use Rattle.calls.specs.declared.fields.Slot as read
 use Rattle.calls.specs.declared.fields.CallFields.{CallFields}
 use Rattle.calls.specs.declared.fields.Callee.{Callee}
 use Rattle.calls.proofs.SlotsAgree.{SlotsRead, pointed}
 
 -- refused with the same number, or a good table that shows the believed variables
 pub data Alike : Answer (List ℕ) → Answer Vars → Type 0 where
-  same-refusal : (n : ℕ) → Alike (refused n) (refused n)
+  same-refusal : (n : Refusal) → Alike (refused n) (refused n)
   same-values : (vars : List ℕ) → Variables vars → Alike (ok vars) (ok (variables_in vars))
 
 alike_then : {a : Answer (List ℕ)} {b : Answer Vars} (f : List ℕ → Answer (List ℕ)) (g : Vars → Answer Vars) → Alike a b
@@ -48,9 +48,8 @@ module _ (vars : List ℕ) (good : Variables vars) where
   set_alike : (x : ℕ) → x < 256 → (a : Answer Value) → Keeps Good a → Alike (found_set vars x (found_of a)) (a >>= λ v. ok (set_to (variables_in vars) x v))
   unfolding found_set ◌>>=◌
   set_alike x l (ok v) (kept g) =
-      rw (tag-some v.kind)
-      (subst (λ (vs : Vars). Alike (ok (set_variable vars x (found (tag v.kind) v.bits))) (ok vs)) (variable-set vars good x l v)
-      (same-values _ (variables-kept vars good x l v g)))
+      subst (λ (vs : Vars). Alike (ok (set_variable vars x (found (tag v.kind) v.bits))) (ok vs)) (variable-set vars good x l v)
+      (same-values _ (variables-kept vars good x l v g))
   set_alike x l (refused n) no_answer = same-refusal n
 
   operand_alike : (x : ℕ) → x < 256 → (o : Operand) (next : ℕ) → 0 < next → Fits o
@@ -75,7 +74,7 @@ slots-pointed s (x ∷ xs) at g vars good (next, r, rs) (f, fs) l =
     let here = variables-kept vars good x.var f (value pointer g) (pointer-good g (omega arith)) in
     let rest = slots-pointed s xs next (g + 1) set_first here rs fs (omega arith) in
     let first : slots_pointed s (length (x ∷ xs)) at g vars ≡ slots_pointed s (length xs) next (g + 1) set_first =
-    ap (λ (y : code.Slot). slots_pointed s (length xs) y.next (g + 1) (set_variable vars y.variable (found (tag pointer) g))) r in
+    ap (λ (y : read.Slot). slots_pointed s (length xs) y.next (g + 1) (set_variable vars y.variable (found (tag pointer) g))) r in
     record {
       good = rw first rest.good;
       shown = ap variables_in first ∙ rest.shown ∙ ap (pointed xs (g + 1)) (variable-set vars good x.var f (value pointer g));
@@ -126,9 +125,9 @@ abbrev pub VariableFits : Option ℕ → Type 0
 VariableFits none = Unit {0}
 VariableFits (some x) = x < 256
 
-abbrev pub ContextRead : (image : List ℕ) (at : ℕ) → Option Operand → Type 0
-ContextRead s at none = at ≡ 0
-ContextRead s at (some o) = (at ≡ 0 → ⊥) × ((next : ℕ) × OperandRead s at o next)
+abbrev pub ContextRead : (image : List ℕ) (at : code.Option ℕ) → Option Operand → Type 0
+ContextRead s at none = at ≡ code.None
+ContextRead s at (some o) = (start : ℕ) × (at ≡ code.Some start) × ((next : ℕ) × OperandRead s start o next)
 
 abbrev pub ContextFits : Option Operand → Type 0
 ContextFits none = Unit {0}
@@ -137,17 +136,17 @@ ContextFits (some o) = Fits o
 module _ (s : List ℕ) (call : CallFields) (f : Callee) (vars : List ℕ) (good : Variables vars) (x : ℕ) (l : x < 256) where
   context_alike : (c : Option Operand) → f.context ≡ x → ContextRead s call.context c → ContextFits c → Alike (context_set s call f vars) (set_from (variables_in vars) x c)
   unfolding context_set set_from
-  context_alike none d e h = rw (eq-eqb _ _ e) (same-values vars good)
-  context_alike (some o) d (n, (next, r)) h = rw (d, ne_eqb _ _ n, r.0) (operand_alike vars good x l o next r.1 h)
+  context_alike none d e h = rw e (same-values vars good)
+  context_alike (some o) d (start, e, (next, r)) h = rw (d, e, r.0) (operand_alike vars good x l o next r.1 h)
 
   variable_alike : (y : ℕ) → y < 256 → Alike (found_set vars x (read_variable vars y)) (value_of (variables_in vars) (variable y) >>= λ v. ok (set_to (variables_in vars) x v))
   unfolding evaluated
   variable_alike y h = operand_alike vars good x l (variable y) 1 (omega arith) h
 
-  pointer_alike : (p : Option ℕ) → f.result ≡ x → call.pointer ≡ variable_out p → VariableFits p → Alike (pointer_set call f vars) (set_from (variables_in vars) x (as_variable p))
+  pointer_alike : (p : Option ℕ) → f.result ≡ x → call.pointer ≡ variable_of (variable_out p) → VariableFits p → Alike (pointer_set call f vars) (set_from (variables_in vars) x (as_variable p))
   unfolding pointer_set set_from as_variable
   pointer_alike none d e h = rw e (same-values vars good)
-  pointer_alike (some y) d e h = rw (d, e, ne_eqb (suc y) 0 (λ z. omega arith), sub-one) (variable_alike y h)
+  pointer_alike (some y) d e h = rw (d, e) (variable_alike y h)
 
 -- ---- all that follows the slots
 
@@ -192,7 +191,7 @@ pub record CallRead (s : List ℕ) (call : CallFields) (c : Calling) : Type 0 wh
   pub callee : call.callee ≡ c.function
   pub given : call.given ≡ length c.arguments
   pub arguments : OperandsRead s call.arguments c.arguments
-  pub returns : call.pointer ≡ variable_out c.returns
+  pub returns : call.pointer ≡ variable_of (variable_out c.returns)
   pub there : call.next ≡ 0 → ⊥
 
 pub record CallFits (c : Calling) : Type 0 where

@@ -1,12 +1,10 @@
 -- What a start does to registers and tables, once the checks of its entry are made.
-use Rattle.std.specs.Prelude.{ℕ, zero, suc, List, [], ◌∷◌, map, length, replicate, eqb}
+use Rattle.std.specs.Prelude.{ℕ, zero, suc, List, [], ◌∷◌, map, length, replicate, eqb, Result, Ok, Err}
+use Rattle.value.specs.declared.refusal.Refusal.{Refusal}
 use Rattle.value.specs.Answer.{pick}
 use Rattle.value.specs.Value.{Value, tag}
+use Rattle.memory.specs.declared.Registers.{Registers}
 use Rattle.memory.specs.Tables.{Tables, registers}
-use Rattle.memory.specs.declared.Moved.{Moved}
-use Rattle.memory.specs.declared.Moved.TheVariants as moved
-use Rattle.memory.specs.declared.Place.{Place}
-use Rattle.memory.specs.declared.Place.TheVariants as place
 use Rattle.instruction.specs.Code.{Stepped, stepped}
 use Rattle.instruction.specs.Decode.{field_at}
 use Rattle.instruction.specs.Variables.{found, set_variable}
@@ -17,7 +15,7 @@ use Rattle.instruction.specs.Storage.{unstepped}
 use Rattle.calls.specs.Fields.{callee_at, place_in, entry_of}
 use Rattle.calls.specs.Room.{room_in_of}
 use Rattle.calls.specs.Variables.{slots_pointed}
-use Rattle.calls.specs.Code.{Entered, slots_made_of}
+use Rattle.calls.specs.Code.{Entered, slots_made_of, where_room}
 use Rattle.calls.specs.declared.fields.Callee.{Callee}
 
 -- the host's values, as they are lent
@@ -52,23 +50,21 @@ variables_set s f context ts bs g vars =
     slots_pointed s f.count f.slots g (started_set s f ts bs (set_variable (replicate (length vars) 0) f.context context))
 
 -- "the next place is the entry label's and the machine runs"
-unfoldable pub ran_at : (place : ℕ) → Moved → Progress
-ran_at k (moved.Done m) = progress.Next (registers 1 k m.counter m.depth m.pointers)
-ran_at k (moved.Refused n) = progress.Refused n
+unfoldable pub ran_at : (place : ℕ) → (Result Registers Refusal) → Result Progress Refusal
+ran_at k (Ok m) = Ok (progress.Next (registers 1 k m.counter m.depth m.pointers))
+ran_at k (Err n) = Err n
 
 abbrev pub with_slots : (place : ℕ) → Entered → (vars : List ℕ) → Stepped
 with_slots k e vs = stepped (ran_at k e.answer) e.store e.frames e.bounds e.pointers vs
 
 unfoldable pub begun_in : Tables → (vars image : List ℕ) → (place : ℕ) → Callee → Found → (tags bits : List ℕ) → Stepped
 begun_in t vars s k f context ts bs =
-    let no = room_in_of t.registers s f (length t.store) t.frames t.bounds (length t.pointers) in
-    pick (eqb no 0)
+    where_room (room_in_of t.registers s f (length t.store) t.frames t.bounds (length t.pointers)) t vars
     (with_slots k (slots_made_of s f.count f.slots t) (variables_set s f context ts bs t.registers.pointers vars))
-    (unstepped t vars no)
 
-abbrev pub begun_at : Tables → (vars image : List ℕ) → Place → Callee → Found → (tags bits : List ℕ) → Stepped
-begun_at t vars s (place.At k) f context ts bs = begun_in t vars s k f context ts bs
-begun_at t vars s (place.Refused n) f context ts bs = unstepped t vars n
+abbrev pub begun_at : Tables → (vars image : List ℕ) → (Result ℕ Refusal) → Callee → Found → (tags bits : List ℕ) → Stepped
+begun_at t vars s (Ok k) f context ts bs = begun_in t vars s k f context ts bs
+begun_at t vars s (Err n) f context ts bs = unstepped t vars n
 
 unfoldable pub begun_of : Tables → (vars image labels functions : List ℕ) → (number : ℕ) → (context : Found) → (tags bits : List ℕ) → Stepped
 begun_of t vars s labels functions number context ts bs =

@@ -1,15 +1,19 @@
 -- What the code reads again of a Call and of its callee. Place 0 is no field's, and stands for refused.
-use Rattle.std.specs.Prelude.{ℕ, zero, suc, ◌+◌, List, length, get_or, ltb, leb, eqb}
+use Rattle.std.specs.Prelude.{ℕ, zero, suc, ◌+◌, List, length, get_or, ltb, leb, eqb, Option, Some, None, Result, Ok, Err}
+use Rattle.value.specs.declared.refusal.Refusal.{Refusal}
 use Rattle.value.specs.Refusal.{no_instruction}
 use Rattle.value.specs.Answer.{pick}
-use Rattle.memory.specs.declared.Place.{Place}
-use Rattle.memory.specs.declared.Place.TheVariants as place
 use Rattle.instruction.specs.Decode.{field, field_at, operand_at}
 use Rattle.instruction.specs.declared.field.Field.{Field}
 use Rattle.calls.specs.declared.fields.Spot.{Spot}
 use Rattle.calls.specs.declared.fields.Slot.{Slot}
 use Rattle.calls.specs.declared.fields.CallFields.{CallFields}
 use Rattle.calls.specs.declared.fields.Callee.{Callee}
+
+-- a variable by its number + 1, or none by 0
+abbrev pub variable_of : ℕ → Option ℕ
+variable_of zero = None
+variable_of (suc x) = Some x
 
 module _ (image : List ℕ) where
   -- the place after n numbers
@@ -38,13 +42,13 @@ module _ (image : List ℕ) where
       let to = optional_variable at in
       pick (eqb to.value 0) to (field to.value (field_at image to.next).next)
 
-  -- "optional context operand": where it stands, 0 for none
+  -- "optional context operand": where it stands, if there is one
   unfoldable pub optional_operand : (at : ℕ) → Spot
   optional_operand at =
       let mark = field_at image at in
       pick (eqb mark.value 0)
-      (record { start = 0; next = mark.next })
-      (record { start = mark.next; next = (operand_at image mark.next).next })
+      (record { start = None; next = mark.next })
+      (record { start = Some mark.next; next = (operand_at image mark.next).next })
 
   -- "pairs of variable and size"
   unfoldable pub slot_at : (at : ℕ) → Slot
@@ -67,7 +71,7 @@ module _ (image : List ℕ) where
         callee = callee.value;
         given = given.value;
         arguments = given.next;
-        pointer = pointer.value;
+        pointer = variable_of pointer.value;
         next = pointer.next;
       }
 
@@ -97,7 +101,7 @@ unfoldable pub place_in : (functions : List ℕ) → (number : ℕ) → ℕ
 place_in functions n = pick (ltb n (length functions)) (get_or functions n 0) 0
 
 -- the place of the entry label; an accepted image has no other labels
-unfoldable pub entry_of : (labels : List ℕ) → Callee → Place
+unfoldable pub entry_of : (labels : List ℕ) → Callee → Result ℕ Refusal
 entry_of labels f =
-    pick (eqb f.slots 0) (place.Refused no_instruction)
-    (pick (ltb f.entry (length labels)) (place.At (get_or labels f.entry 0)) (place.Refused no_instruction))
+    pick (eqb f.slots 0) (Err no_instruction)
+    (pick (ltb f.entry (length labels)) (Ok (get_or labels f.entry 0)) (Err no_instruction))

@@ -1,10 +1,9 @@
 // What a Call sets: its slots' variables, then what it hands over. Where all that is handed over has a value, none of it is refused, and
 // no old words are kept; else each variable is set with its old words at hand.
-ghost use Rattle.std.specs.Prelude.{◌≡◌, true, ◌+◌, ◌-◌, ◌<◌, ltb};
+ghost use Rattle.std.specs.Prelude.{◌≡◌, ℕ, true, ◌+◌, ◌-◌, ◌<◌, ltb, Err, Some, IsOk};
 ghost use Rattle.value.specs.Refusal.{not_sound};
 ghost use Rattle.value.specs.Answer.{ok, pick};
 ghost use Rattle.memory.specs.Tables.{both};
-ghost use Rattle.memory.specs.declared.Outcome.TheVariants as outcome;
 ghost use Rattle.instruction.specs.Decode.{operand_at};
 ghost use Rattle.instruction.specs.Variables.{read_variable, evaluated};
 ghost use Rattle.calls.specs.Variables.{all_or_nothing, slots_pointed, arguments_set, context_set, pointer_set, pointer_on, slots_on, all_found, Sure};
@@ -13,31 +12,27 @@ use crate::fields::{CallFields, Callee, read_slot};
 use crate::variables::{held, set_pointer, undo};
 use instruction::field::{read_field, read_operand};
 use instruction::variables::{Found, evaluate, read_variable, set_variable};
-use memory::Outcome;
 use value::IrType;
-use value::refusal::NOT_SOUND;
+use value::refusal::Refusal;
 
 // The variables of the slots take the pointers from number `first` on.
+#[tactic(auto, using(crate::proofs::Sets::slot_pointed, crate::proofs::Sets::slots_done))]
 fn point(image: &[u8], callee: Callee, first: usize, vars: &mut [u64])
     requires { first + callee.count < 18446744073709551616 }
     ensures { vars.new ≡ slots_pointed image.now callee.count callee.slots first vars.old }
 {
     let mut at = callee.slots;
-    let mut left = callee.count;
-    let mut number = first;
-    while 0 < left {
+    for k in 0..callee.count {
         let slot = read_slot(image, at);
         set_variable(
             vars,
             slot.variable as usize,
             Found {
                 tag: IrType::POINTER_TAG,
-                bits: number as u64,
+                bits: first as u64 + k,
             },
         );
         at = slot.next;
-        left -= 1;
-        number += 1;
     }
 }
 
@@ -45,120 +40,101 @@ fn point(image: &[u8], callee: Callee, first: usize, vars: &mut [u64])
 pub fn point_slots(image: &[u8], callee: Callee, first: usize, vars: &mut [u64])
     ensures { vars.new ≡ pick (ltb (18446744073709551615 - first) callee.count) vars.old (slots_pointed image.now callee.count callee.slots first vars.old) }
 {
-    if 18446744073709551615 - (first as u64) < callee.count {
+    if u64::MAX - (first as u64) < callee.count {
         return;
     }
     point(image, callee, first, vars);
 }
 
 // Whether `count` operands all have values.
+#[tactic(auto, using(crate::proofs::Sure::all_on, crate::proofs::Sure::all_stop, crate::proofs::Sure::all_none))]
 fn all_found(image: &[u8], start: usize, count: u64, vars: &[u64]) -> bool
     ensures { result ≡ all_found image.now count start vars.now }
 {
     let mut at = start;
-    let mut left = count;
-    while 0 < left {
+    for _ in 0..count {
         let operand = read_operand(image, at);
-        let v = evaluate(vars, operand);
-        if v.tag == 0 {
+        if evaluate(vars, operand).is_err() {
             return false;
         }
         at = operand.next;
-        left -= 1;
     }
     true
 }
 
 // Whether the return pointer, if there is one, has a value.
 fn has_pointer(call: CallFields, vars: &[u64]) -> bool
-    ensures { result ≡ true → (call.pointer ≡ 0 → ⊥) → (read_variable vars.now (call.pointer - 1)).tag ≡ 0 → ⊥ }
+    ensures { result ≡ true → (x : ℕ) → call.pointer ≡ Some x → IsOk (read_variable vars.now x) }
 {
-    if call.pointer == 0 {
-        return true;
+    match call.pointer {
+        Some(x) => read_variable(vars, x as usize).is_ok(),
+        None => true,
     }
-    let v = read_variable(vars, (call.pointer - 1) as usize);
-    if v.tag == 0 {
-        return false;
-    }
-    true
 }
 
 // Whether the context, if there is one, has a value.
 fn has_context(image: &[u8], call: CallFields, vars: &[u64]) -> bool
-    ensures { result ≡ true → (call.context ≡ 0 → ⊥) → (evaluated vars.now (operand_at image.now call.context)).tag ≡ 0 → ⊥ }
+    ensures { result ≡ true → (at : ℕ) → call.context ≡ Some at → IsOk (evaluated vars.now (operand_at image.now at)) }
 {
-    if call.context == 0 {
-        return true;
+    match call.context {
+        Some(at) => evaluate(vars, read_operand(image, at)).is_ok(),
+        None => true,
     }
-    let v = evaluate(vars, read_operand(image, call.context));
-    if v.tag == 0 {
-        return false;
-    }
-    true
 }
 
 // Whether all that the Call hands over has a value as the variables stand.
 fn is_sure(image: &[u8], call: CallFields, vars: &[u64]) -> bool
     ensures { result ≡ true → Sure image.now call vars.now }
 {
-    if !has_pointer(call, vars) {
-        return false;
-    }
-    if !has_context(image, call, vars) {
-        return false;
-    }
-    all_found(image, call.arguments, call.given, vars)
+    has_pointer(call, vars)
+        && has_context(image, call, vars)
+        && all_found(image, call.arguments, call.given, vars)
 }
 
 // The return pointer, if there is one, and it has a value.
+#[tactic(auto, unfolding(crate::specs::Variables::pointer_set, crate::specs::Variables::found_set))]
 fn put_pointer(call: CallFields, callee: Callee, vars: &mut [u64])
-    requires { (call.pointer ≡ 0 → ⊥) → (read_variable vars.old (call.pointer - 1)).tag ≡ 0 → ⊥ }
+    requires { (x : ℕ) → call.pointer ≡ Some x → IsOk (read_variable vars.old x) }
     ensures { pointer_set call callee vars.old ≡ ok vars.new }
 {
-    if call.pointer == 0 {
-        return;
+    if let Some(x) = call.pointer {
+        let v = read_variable(vars, x as usize).unwrap();
+        set_variable(vars, callee.result as usize, v);
     }
-    let v = read_variable(vars, (call.pointer - 1) as usize);
-    set_variable(vars, callee.result as usize, v);
 }
 
 // The context, if there is one, and it has a value.
+#[tactic(auto, unfolding(crate::specs::Variables::context_set, crate::specs::Variables::found_set))]
 fn put_context(image: &[u8], call: CallFields, callee: Callee, vars: &mut [u64])
-    requires { (call.context ≡ 0 → ⊥) → (evaluated vars.old (operand_at image.now call.context)).tag ≡ 0 → ⊥ }
+    requires { (at : ℕ) → call.context ≡ Some at → IsOk (evaluated vars.old (operand_at image.now at)) }
     ensures { context_set image.now call callee vars.old ≡ ok vars.new }
 {
-    if call.context == 0 {
-        return;
+    if let Some(at) = call.context {
+        let v = evaluate(vars, read_operand(image, at)).unwrap();
+        set_variable(vars, callee.context as usize, v);
     }
-    let v = evaluate(vars, read_operand(image, call.context));
-    set_variable(vars, callee.context as usize, v);
 }
 
 // The arguments, which all have values.
+#[tactic(auto, using(crate::proofs::Sure::all_first, crate::proofs::Sure::argument_put, crate::proofs::Sets::argument_set, crate::proofs::Sets::unwanted_done, crate::proofs::Sets::missing_done))]
 fn put_arguments(image: &[u8], call: CallFields, callee: Callee, vars: &mut [u64])
     requires { all_found image.now call.given call.arguments vars.old ≡ true }
     ensures { arguments_set image.now callee.wanted callee.parameters call.given call.arguments vars.old ≡ ok vars.new }
 {
     let mut parameter = callee.parameters;
     let mut argument = call.arguments;
-    let mut wanted = callee.wanted;
-    let mut given = call.given;
-    while 0 < wanted {
-        if given == 0 {
-            return;
-        }
+    for _ in 0..callee.wanted.min(call.given) {
         let to = read_field(image, parameter);
         let from = read_operand(image, argument);
-        let v = evaluate(vars, from);
+        let v = evaluate(vars, from).unwrap();
         set_variable(vars, to.value as usize, v);
         parameter = to.next;
         argument = from.next;
-        wanted -= 1;
-        given -= 1;
     }
 }
 
 // All that a sure Call hands over.
+#[tactic(auto, using(crate::proofs::Sure::sure_context, crate::proofs::Sure::sure_arguments, crate::proofs::Sure::handed))]
 fn put_handed(image: &[u8], call: CallFields, callee: Callee, vars: &mut [u64])
     requires { Sure image.now call vars.old }
     ensures { pointer_on image.now call callee vars.old ≡ ok vars.new }
@@ -169,6 +145,7 @@ fn put_handed(image: &[u8], call: CallFields, callee: Callee, vars: &mut [u64])
 }
 
 // The variables of `left` slots take the pointers from `number` on; then the return pointer, the context and the arguments.
+#[tactic(auto, using(crate::proofs::Sets::slots_none))]
 fn set_slots(
     image: &[u8],
     call: CallFields,
@@ -177,7 +154,7 @@ fn set_slots(
     left: u64,
     number: usize,
     vars: &mut [u64],
-) -> Outcome
+) -> Result<(), Refusal>
     requires { number + left < 18446744073709551616 }
     ensures { both result vars.new ≡ all_or_nothing vars.old (slots_on image.now call callee left at number vars.old) }
 {
@@ -200,22 +177,23 @@ fn set_slots(
 }
 
 // The variables of the slots, whose pointers are those from `first` on, then the return pointer, the context and the arguments: all, or nothing.
+#[tactic(auto, using(crate::proofs::Sure::sure_pointed, crate::proofs::Sure::handed_all))]
 pub fn set_all(
     image: &[u8],
     call: CallFields,
     callee: Callee,
     first: usize,
     vars: &mut [u64],
-) -> Outcome
-    ensures { both result vars.new ≡ pick (ltb (18446744073709551615 - first) callee.count) (both (outcome.Refused not_sound) vars.old) (all_or_nothing vars.old (slots_on image.now call callee callee.count callee.slots first vars.old)) }
+) -> Result<(), Refusal>
+    ensures { both result vars.new ≡ pick (ltb (18446744073709551615 - first) callee.count) (both (Err not_sound) vars.old) (all_or_nothing vars.old (slots_on image.now call callee callee.count callee.slots first vars.old)) }
 {
-    if 18446744073709551615 - (first as u64) < callee.count {
-        return Outcome::Refused(NOT_SOUND);
+    if u64::MAX - (first as u64) < callee.count {
+        return Err(Refusal::NotSound);
     }
     if is_sure(image, call, vars) {
         point(image, callee, first, vars);
         put_handed(image, call, callee, vars);
-        return Outcome::Done;
+        return Ok(());
     }
     let at = callee.slots;
     let left = callee.count;

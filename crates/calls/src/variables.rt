@@ -7,9 +7,10 @@ ghost use Rattle.calls.specs.Variables.{held_of, undone_of, all_or_nothing, argu
 use crate::fields::{CallFields, Callee};
 use instruction::field::{read_field, read_operand};
 use instruction::variables::{Found, evaluate, read_variable, set_variable};
-use memory::Outcome;
+use value::refusal::Refusal;
 
 // A variable's two words as they stand.
+#[tactic(auto, unfolding(crate::specs::Variables::held_of))]
 pub fn held(vars: &[u64], x: usize) -> Found
     ensures { result ≡ held_of vars.now x }
 {
@@ -24,19 +25,25 @@ pub fn held(vars: &[u64], x: usize) -> Found
 }
 
 // Where the rest was refused, the variable gets its old words back.
-pub fn undo(vars: &mut [u64], x: usize, old: Found, rest: Outcome) -> Outcome
+pub fn undo(
+    vars: &mut [u64],
+    x: usize,
+    old: Found,
+    rest: Result<(), Refusal>,
+) -> Result<(), Refusal>
     ensures { both result vars.new ≡ undone_of vars.old x old rest }
 {
     match rest {
-        Outcome::Done => Outcome::Done,
-        Outcome::Refused(n) => {
+        Ok(()) => Ok(()),
+        Err(n) => {
             set_variable(vars, x, old);
-            Outcome::Refused(n)
+            Err(n)
         }
     }
 }
 
 // The arguments: spare ones are not evaluated, missing ones leave the old value.
+#[tactic(auto, using(crate::proofs::Sets::arguments_refused, crate::proofs::Sets::arguments_unwanted, crate::proofs::Sets::arguments_missing), unfolding(crate::specs::Variables::all_or_nothing))]
 pub fn set_arguments(
     image: &[u8],
     parameters: usize,
@@ -44,21 +51,18 @@ pub fn set_arguments(
     arguments: usize,
     given: u64,
     vars: &mut [u64],
-) -> Outcome
+) -> Result<(), Refusal>
     ensures { both result vars.new ≡ all_or_nothing vars.old (arguments_set image.now wanted parameters given arguments vars.old) }
 {
     if wanted == 0 {
-        return Outcome::Done;
+        return Ok(());
     }
     if given == 0 {
-        return Outcome::Done;
+        return Ok(());
     }
     let to = read_field(image, parameters);
     let from = read_operand(image, arguments);
-    let v = evaluate(vars, from);
-    if v.tag == 0 {
-        return Outcome::Refused(v.bits);
-    }
+    let v = evaluate(vars, from)?;
     let x = to.value as usize;
     let old = held(vars, x);
     set_variable(vars, x, v);
@@ -67,10 +71,16 @@ pub fn set_arguments(
 }
 
 // The context, if there is one, then the arguments.
-pub fn set_context(image: &[u8], call: CallFields, callee: Callee, vars: &mut [u64]) -> Outcome
+#[tactic(auto, using(crate::proofs::Sets::context_none, crate::proofs::Sets::context_refused), unfolding(crate::specs::Variables::all_or_nothing))]
+pub fn set_context(
+    image: &[u8],
+    call: CallFields,
+    callee: Callee,
+    vars: &mut [u64],
+) -> Result<(), Refusal>
     ensures { both result vars.new ≡ all_or_nothing vars.old (context_on image.now call callee vars.old) }
 {
-    if call.context == 0 {
+    let Some(at) = call.context else {
         return set_arguments(
             image,
             callee.parameters,
@@ -79,11 +89,8 @@ pub fn set_context(image: &[u8], call: CallFields, callee: Callee, vars: &mut [u
             call.given,
             vars,
         );
-    }
-    let v = evaluate(vars, read_operand(image, call.context));
-    if v.tag == 0 {
-        return Outcome::Refused(v.bits);
-    }
+    };
+    let v = evaluate(vars, read_operand(image, at))?;
     let x = callee.context as usize;
     let old = held(vars, x);
     set_variable(vars, x, v);
@@ -99,16 +106,19 @@ pub fn set_context(image: &[u8], call: CallFields, callee: Callee, vars: &mut [u
 }
 
 // The return pointer, if there is one, then the context and the arguments.
-pub fn set_pointer(image: &[u8], call: CallFields, callee: Callee, vars: &mut [u64]) -> Outcome
+#[tactic(auto, using(crate::proofs::Sets::pointer_none, crate::proofs::Sets::pointer_refused), unfolding(crate::specs::Variables::all_or_nothing))]
+pub fn set_pointer(
+    image: &[u8],
+    call: CallFields,
+    callee: Callee,
+    vars: &mut [u64],
+) -> Result<(), Refusal>
     ensures { both result vars.new ≡ all_or_nothing vars.old (pointer_on image.now call callee vars.old) }
 {
-    if call.pointer == 0 {
+    let Some(pointer) = call.pointer else {
         return set_context(image, call, callee, vars);
-    }
-    let v = read_variable(vars, (call.pointer - 1) as usize);
-    if v.tag == 0 {
-        return Outcome::Refused(v.bits);
-    }
+    };
+    let v = read_variable(vars, pointer as usize)?;
     let x = callee.result as usize;
     let old = held(vars, x);
     set_variable(vars, x, v);

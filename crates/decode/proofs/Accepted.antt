@@ -1,12 +1,13 @@
 -- A program that an image gave is accepted by the machine that a reader believes: the loader's limits are all that it asks.
 use Prim.Native.Nat.{ℕ}
-use mathlib.Core.Bool.{Bool, true, ◌&&◌}
+use mathlib.Core.Bool.{Bool, true}
 use mathlib.Core.Path.{◌≡◌, refl}
 use mathlib.Core.List.{List, [], ◌∷◌}
 use mathlib.Core.Option.{Option, none, some}
 use lib.ListN.{length}
 use lib.Dec.{ltb}
 use borrow.Author.Tests.{lt-ltb, le-leb}
+use Rattle.value.proofs.Truth.{and_true}
 use Rattle.image.specs.Parse.{took}
 use Rattle.image.specs.Image.{Counts, loaded}
 use Rattle.image.specs.Program.{Program, Operand, variable, literal, Declared, code, Instruction, Jump, Switch, Assign, ConstantAddress, Call, Return, IntCmp', FloatCmp', Add, Sub, Mul, Div, Mod, FDiv, Not, Negate, Offset, Initialize, Write, Read, Copy, Drop}
@@ -15,9 +16,6 @@ use Rattle.machine.specs.Sound.{all, are_bytes}
 use Rattle.machine.specs.Accepted.{good_operand, good_optional, good_to, both, good_instruction, accepted}
 use Rattle.image.specs.Limits.{Each, IfAny, IsByte, IsVariable, IsOperand, IsDeclared, IsInstruction, counts_of, AreBytes}
 use Rattle.decode.proofs.Items.{flat_each, within-limits, code-within}
-
-and_true : {a b : Bool} → a ≡ true → b ≡ true → a && b ≡ true
-and_true h k = rw (h, k)
 
 all_true : {A : Type 0} (ok : A → Type 0) (f : A → Bool) → ((a : A) → ok a → f a ≡ true) → (xs : List A) → Each ok xs → all f xs ≡ true
 unfolding all Each

@@ -9,7 +9,7 @@ use Rattle.image.specs.Parse.{Got, took, refused}
 use Rattle.image.specs.Number.{number}
 use Rattle.image.specs.Program.{Program}
 use Rattle.image.specs.Image.{loaded}
-use Rattle.loader.specs.Tables.{loaded_from}
+use Rattle.loader.specs.Tables.{tables_from}
 use Rattle.memory.specs.View.{tab, part, constants_in}
 use Rattle.memory.proofs.Tab.{length-tab, get_d_tab}
 use Rattle.memory.proofs.Access.{Extents}
@@ -48,11 +48,11 @@ module _ (s : List ℕ) (bytes : AreBytes s) (P : Program) (e : ℕ) (h : loaded
     shows : part s (get_or (extents_of s) (c * 2) 0) (get_or (extents_of s) (c * 2 + 1) 0) ≡ get_or P.constants c []
     inside : get_or (extents_of s) (c * 2) 0 + get_or (extents_of s) (c * 2 + 1) 0 ≤ length s
 
-  count : (loaded_from s).counts.constants ≡ length P.constants
+  count : (tables_from s).counts.constants ≡ length P.constants
   count = (counted s bytes P e h).constants
 
   places-length : length (places_of s) ≡ length P.constants
-  places-length = length-take-le (loaded_from s).counts.constants (loaded_from s).constants (omega (arith, count, constants-room s bytes P e h)) ∙ count
+  places-length = length-take-le (tables_from s).counts.constants (tables_from s).constants (omega (arith, count, constants-room s bytes P e h)) ∙ count
 
   shown : (c : ℕ) → c < length P.constants → Shown c
   shown c lt =
@@ -60,7 +60,7 @@ module _ (s : List ℕ) (bytes : AreBytes s) (P : Program) (e : ℕ) (h : loaded
       let (start, counts, rest) = st.stand in
       let (end, reads, last) = rest in
       let (is, ends, le) = raw-took s (length (get_or P.constants c [])) start reads in
-      let at : get_or (places_of s) c 0 ≡ get_or (loaded_from s).constants c 0 = get_or-take (loaded_from s).counts.constants (loaded_from s).constants c 0 (omega (arith, count)) in
+      let at : get_or (places_of s) c 0 ≡ get_or (tables_from s).constants c 0 = get_or-take (tables_from s).counts.constants (tables_from s).constants c 0 (omega (arith, count)) in
       let x = extent-at s (places_of s) c (length (get_or P.constants c [])) start (omega (arith, places-length)) (ap (number s) at ∙ counts) in
       record { shows = ap₂ (part s) x.0 x.1 ∙ sym is; inside = omega (arith, x.0, x.1, le) }
 

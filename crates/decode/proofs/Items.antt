@@ -1,18 +1,19 @@
 -- Of an image that was taken, for the layers above: where the items of its program stand, and which bounds they keep.
--- Each statement is about the loader's answer `loaded_from s` and the program P alone.
+-- Each statement is about the loader's tables `tables_from s` and the program P alone.
 use Prim.Native.Nat.{ℕ, ◌≤◌, ◌<◌}
 use native.Mathlib.Omega.{arith}
 use mathlib.Core.Path.{◌≡◌, refl, sym, ap, subst, ◌∙◌}
 use mathlib.Core.List.{List, [], ◌∷◌, map, flatten}
 use lib.ListN.{length, get_or, replicate, length-map, length-replicate}
 use lib.Seq.{length-sets}
-use Rattle.image.specs.Parse.{took}
+use Rattle.std.specs.Prelude.{Ok}
+use Rattle.image.specs.Parse.{Got, took}
 use Rattle.image.specs.Program.{Program, Instruction, no_function, function_at, code, place_of}
 use Rattle.image.specs.Image.{Image, image, program_of, loaded}
 use Rattle.image.specs.Written.{length_and}
 use Rattle.image.specs.Written as W
 use Rattle.loader.specs.declared.load.Loaded.{Loaded}
-use Rattle.loader.specs.Tables.{ats, loaded_of, loaded_from}
+use Rattle.loader.specs.Tables.{ats, tables_of, tables_from, loaded_of, loaded_from}
 use Rattle.loader.proofs.Turn.{then_took}
 use Rattle.image.specs.Limits.{Each, IsInstruction, IsFunctionItem, counts_of, WithinLimits, AreBytes}
 use Rattle.image.proofs.Takes.{each_append}
@@ -37,6 +38,10 @@ behind s P e h =
     let (i, m, e₁, e₂) = then_took (image s) (λ i end. took (program_of i) end) h in
     record { image' = i; takes = e₁ ∙ ap (took i) (same_place e₂); program = same-value e₂ }
 
+-- the loader answers its tables
+pub tables-given : (s : List ℕ) (P : Program) (e : ℕ) → loaded s ≡ took P e → loaded_from s ≡ Ok (tables_from s)
+tables-given s P e h = let b = behind s P e h in ap loaded_of b.takes ∙ ap (λ (g : Got Image). Ok (tables_of g)) (sym b.takes)
+
 -- what holds of every block's instructions holds of the flat list's
 pub flat_each : (ok : Instruction → Type 0) (bs : List (List Instruction)) → Each (Each ok) bs → Each ok (flatten bs)
 unfolding flatten Each
@@ -52,15 +57,15 @@ pub record Counted (l : Loaded) (P : Program) : Type 0 where
   pub instructions : l.instructions ≡ length (code P)
 
 module _ (s : List ℕ) (bytes : AreBytes s) (P : Program) (e : ℕ) (h : loaded s ≡ took P e) where
-  from_image : (C : Loaded → Program → Type 0) → ((i : Image) → image s ≡ took i e → C (loaded_of (took i e)) (program_of i)) → C (loaded_from s) P
+  from_image : (C : Loaded → Program → Type 0) → ((i : Image) → image s ≡ took i e → C (tables_of (took i e)) (program_of i)) → C (tables_from s) P
   from_image C f =
       let b = behind s P e h in
-      subst (C (loaded_from s)) b.program (subst (λ (l : Loaded). C l (program_of b.image')) (ap loaded_of (sym b.takes)) (f b.image' b.takes))
+      subst (C (tables_from s)) b.program (subst (λ (l : Loaded). C l (program_of b.image')) (ap tables_of (sym b.takes)) (f b.image' b.takes))
 
   -- ---- places
 
   -- instruction k stands at its place
-  pub instruction-stands : (d : Instruction) (k : ℕ) → k < length (code P) → Stands s (get_or (loaded_from s).places k 0) (W.instruction (get_or (code P) k d))
+  pub instruction-stands : (d : Instruction) (k : ℕ) → k < length (code P) → Stands s (get_or (tables_from s).places k 0) (W.instruction (get_or (code P) k d))
   instruction-stands d k =
       from_image (λ l P. k < length (code P) → Stands s (get_or l.places k 0) (W.instruction (get_or (code P) k d)))
       (λ i takes lt.
@@ -69,7 +74,7 @@ module _ (s : List ℕ) (bytes : AreBytes s) (P : Program) (e : ℕ) (h : loaded
       record { past = r.after; end = r.next; stand = (alone (instruction_spells bytes n) _ r.next _ r.reads).stands })
 
   -- function f stands at its place
-  pub function-stands : (f : ℕ) → f < length P.functions → Stands s (get_or (loaded_from s).functions f 0) (W.function (function_at P f))
+  pub function-stands : (f : ℕ) → f < length P.functions → Stands s (get_or (tables_from s).functions f 0) (W.function (function_at P f))
   unfolding program_of
   function-stands f =
       from_image (λ l P. f < length P.functions → Stands s (get_or l.functions f 0) (W.function (function_at P f)))
@@ -79,7 +84,7 @@ module _ (s : List ℕ) (bytes : AreBytes s) (P : Program) (e : ℕ) (h : loaded
       record { past = r.after; end = r.next; stand = (alone (function_spells bytes n) _ r.next _ r.reads).stands })
 
   -- constant c stands at its place: its length and its bytes
-  pub constant-stands : (c : ℕ) → c < length P.constants → Stands s (get_or (loaded_from s).constants c 0) (length_and (get_or P.constants c []))
+  pub constant-stands : (c : ℕ) → c < length P.constants → Stands s (get_or (tables_from s).constants c 0) (length_and (get_or P.constants c []))
   unfolding program_of
   constant-stands c =
       from_image (λ l P. c < length P.constants → Stands s (get_or l.constants c 0) (length_and (get_or P.constants c [])))
@@ -89,7 +94,7 @@ module _ (s : List ℕ) (bytes : AreBytes s) (P : Program) (e : ℕ) (h : loaded
       record { past = r.after; end = r.next; stand = (alone (bytes_spells bytes r.left) _ r.next _ r.reads).stands })
 
   -- "A label is a block's position; an empty block's label means the next instruction in the flat list."
-  pub label_leads : (l : ℕ) → l < length P.blocks → get_or (loaded_from s).labels l 0 ≡ place_of P l
+  pub label_leads : (l : ℕ) → l < length P.blocks → get_or (tables_from s).labels l 0 ≡ place_of P l
   unfolding program_of
   label_leads l =
       from_image (λ t P. l < length P.blocks → get_or t.labels l 0 ≡ place_of P l)
@@ -97,8 +102,8 @@ module _ (s : List ℕ) (bytes : AreBytes s) (P : Program) (e : ℕ) (h : loaded
       let (n, t) = image-took s i e takes in
       label_at s bytes i n e t l (omega (arith, length-map i.blocks (λ b. map (λ x. x.item) b))))
 
-  pub counted : Counted (loaded_from s) P
-  unfolding loaded_of program_of
+  pub counted : Counted (tables_from s) P
+  unfolding tables_of program_of
   counted =
       from_image Counted
       (λ i takes.
@@ -112,8 +117,8 @@ module _ (s : List ℕ) (bytes : AreBytes s) (P : Program) (e : ℕ) (h : loaded
       })
 
   -- the places of all constants are in their table
-  pub constants-room : length P.constants ≤ length (loaded_from s).constants
-  unfolding loaded_of program_of
+  pub constants-room : length P.constants ≤ length (tables_from s).constants
+  unfolding tables_of program_of
   constants-room =
       from_image (λ l P. length P.constants ≤ length l.constants)
       (λ i takes.

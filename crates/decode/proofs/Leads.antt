@@ -5,6 +5,7 @@ use mathlib.Core.Path.{◌≡◌, refl, sym, ap, subst, ◌∙◌}
 use mathlib.Core.List.{List, [], ◌∷◌, ◌++◌, map, map-append, flatten}
 use lib.ListN.{length, get_or, take, drop, replicate, length-append, length-map, length-replicate, get_or-append, get_or-map}
 use lib.Seq.{sets-eq}
+use Rattle.std.proofs.lemmas.List.{get_or_default}
 use Rattle.value.specs.Refusal.{over_limit}
 use Rattle.image.specs.Parse.{took, Field, Placed, many, within, placed}
 use Rattle.image.specs.Fields.{at_most, bytes, list_of}
@@ -16,7 +17,7 @@ use Rattle.image.proofs.Standing.{forward, stand_forward}
 use Rattle.image.proofs.Spells.{Spells, alone, up_to_spells, bytes_spells}
 use Rattle.image.proofs.Writes.{Counted, header_spells, function_spells, instruction_spells}
 use Rattle.image.proofs.Takes.{each_append}
-use Rattle.loader.specs.Tables.{ats, starts, table, loaded_of}
+use Rattle.loader.specs.Tables.{ats, starts, table, tables_of}
 use Rattle.loader.proofs.Turn.{then_took, within-took, within-done, many-within, placed-took}
 use Rattle.loader.proofs.Blocks.{many-length}
 use Rattle.decode.proofs.Taken.{Taken, constants-counted, functions-counted, blocks-counted}
@@ -90,11 +91,6 @@ held size xs k room lt =
     ap (λ (l : List ℕ). get_or l k 0) (sets-eq xs (replicate size 0) 0 (omega (arith, length-replicate {A = ℕ} size 0)))
     ∙ get_or-append xs (drop (0 + length xs) (replicate size 0)) 0 k lt
 
-any_default : (l : List ℕ) (j a b : ℕ) → j < length l → get_or l j a ≡ get_or l j b
-any_default [] j a b h = absurd (omega arith)
-any_default (x ∷ l) zero a b h = refl
-any_default (x ∷ l) (suc j) a b h = any_default l j a b (omega arith)
-
 -- at the place that a table holds at k, the item k is read
 module _ {A : Type 0} (p : ℕ → Field A) (from size : ℕ) (xs : List (Placed A)) (each : Each (Read p from) xs) (room : length xs ≤ size) (d : Placed A) (k : ℕ) (lt : k < length xs) where
   leads : Read p from (record { at = get_or (table size (ats xs)) k 0; item = get_or (map (λ x. x.item) xs) k d.item })
@@ -109,7 +105,7 @@ module _ {A : Type 0} (p : ℕ → Field A) (from size : ℕ) (xs : List (Placed
       place_is : get_or (table size (ats xs)) k 0 ≡ (get_or xs k d).at
       place_is =
           held size (ats xs) k (omega (arith, length-map xs (λ x. x.at))) (omega (arith, length-map xs (λ x. x.at)))
-          ∙ any_default (ats xs) k 0 d.at (omega (arith, length-map xs (λ x. x.at))) ∙ get_or-map (λ x. x.at) xs k d
+          ∙ get_or_default (ats xs) k 0 d.at (omega (arith, length-map xs (λ x. x.at))) ∙ get_or-map (λ x. x.at) xs k d
 
 -- the flat list of instructions, and where a label leads in it
 flat_items : (bs : List (List (Placed Instruction))) → map (λ x. x.item) (flatten bs) ≡ flatten (map (λ b. map (λ x. x.item) b) bs)
@@ -160,16 +156,16 @@ module _ (s : List ℕ) (ok : AreBytes s) (i : Image) (n : Counts) (e : ℕ) (t 
 
   -- the instruction at place k
   pub instruction-at : (d : Instruction) (k : ℕ) → k < length (code (program_of i))
-      → Read (λ left. instruction s n) 1 (record { at = get_or (loaded_of (took i e)).places k 0; item = get_or (code (program_of i)) k d })
-  unfolding loaded_of program_of
+      → Read (λ left. instruction s n) 1 (record { at = get_or (tables_of (took i e)).places k 0; item = get_or (code (program_of i)) k d })
+  unfolding tables_of program_of
   instruction-at d k lt =
       subst (λ (l : List Instruction). Read (λ left. instruction s n) 1 (record { at = get_or (table 4096 (ats (flatten i.blocks))) k 0; item = get_or l k d })) (flat_items i.blocks)
       (leads (λ left. instruction s n) 1 4096 (flatten i.blocks) blocks-read.0 blocks-read.1 (record { at = 0; item = d }) k (omega (arith, code-length)))
 
   -- the function k
   pub function-at : (k : ℕ) → k < length i.functions
-      → Read (λ left. function s n) 1 (record { at = get_or (loaded_of (took i e)).functions k 0; item = function_at (program_of i) k })
-  unfolding loaded_of program_of
+      → Read (λ left. function s n) 1 (record { at = get_or (tables_of (took i e)).functions k 0; item = function_at (program_of i) k })
+  unfolding tables_of program_of
   function-at k lt =
       leads (λ left. function s n) 1 64 i.functions functions-read.0 (omega (arith, functions-counted s i n e t, limits.functions))
       (record { at = 0; item = no_function }) k lt
@@ -179,14 +175,14 @@ module _ (s : List ℕ) (ok : AreBytes s) (i : Image) (n : Counts) (e : ℕ) (t 
 
   -- the constant k: its length and its bytes
   pub constant-at : (k : ℕ) → k < length i.constants
-      → Read (bytes s) 1 (record { at = get_or (loaded_of (took i e)).constants k 0; item = get_or (program_of i).constants k [] })
-  unfolding loaded_of program_of
+      → Read (bytes s) 1 (record { at = get_or (tables_of (took i e)).constants k 0; item = get_or (program_of i).constants k [] })
+  unfolding tables_of program_of
   constant-at k lt =
       leads (bytes s) 1 64 i.constants constants-read.0 constants-few (record { at = 0; item = [] }) k lt
 
   -- the label l: the position of its first instruction
-  pub label_at : (l : ℕ) → l < length i.blocks → get_or (loaded_of (took i e)).labels l 0 ≡ place_of (program_of i) l
-  unfolding loaded_of program_of
+  pub label_at : (l : ℕ) → l < length i.blocks → get_or (tables_of (took i e)).labels l 0 ≡ place_of (program_of i) l
+  unfolding tables_of program_of
   label_at l lt =
       held 512 (starts 0 i.blocks) l (omega (arith, starts-length 0 i.blocks, blocks-counted s i n e t, limits.blocks)) (omega (arith, starts-length 0 i.blocks))
       ∙ start-at 0 i.blocks l lt ∙ omega arith

@@ -2,7 +2,7 @@
 use Rattle.std.specs.Prelude.{ℕ, List, [], ◌∷◌, ◌++◌, take}
 use Rattle.image.specs.Parse.{Got, took, refused}
 use Rattle.image.specs.Number.{number}
-use Rattle.loader.specs.Tables.{loaded_from}
+use Rattle.loader.specs.Tables.{tables_from}
 
 -- "Constant: length, raw bytes": the bytes start after the length
 abbrev pub extent : Got ℕ → List ℕ
@@ -16,7 +16,7 @@ extents_at s (at ∷ places) = extent (number s at) ++ extents_at s places
 
 -- the places of an image's constants
 abbrev pub places_of : List ℕ → List ℕ
-places_of s = take (loaded_from s).counts.constants (loaded_from s).constants
+places_of s = take (tables_from s).counts.constants (tables_from s).constants
 
 abbrev pub extents_of : List ℕ → List ℕ
 extents_of s = extents_at s (places_of s)

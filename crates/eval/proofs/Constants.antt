@@ -21,10 +21,14 @@ two-words : (g : Got ℕ) → ((extent_of g).start ∷ (extent_of g).count ∷ [
 two-words (took count start) = refl
 two-words (refused n p) = refl
 
+pub extents_none : (s cs e : List ℕ) → take (0 * 2) e ≡ extents_at s (take 0 cs)
+unfolding extents_at
+extents_none s cs e = refl
+
 -- one constant more
-pub extents-more : (s cs e : List ℕ) (k : ℕ) (f : Extent) → k < length cs → k * 2 + 1 < length e → f ≡ extent_of (number s (get_or cs k 0)) → take (k * 2) e ≡ extents_at s (take k cs)
+pub extents_more : (s cs e : List ℕ) (k : ℕ) (f : Extent) → k < length cs → k * 2 + 1 < length e → f ≡ extent_of (number s (get_or cs k 0)) → take (k * 2) e ≡ extents_at s (take k cs)
     → take ((k + 1) * 2) (set (set e (k * 2) f.start) (k * 2 + 1) f.count) ≡ extents_at s (take (k + 1) cs)
-extents-more s cs e k f lt room is h =
+extents_more s cs e k f lt room is h =
     let two : (k + 1) * 2 ≡ suc (k * 2 + 1) = omega arith in
     let one : k * 2 + 1 ≡ suc (k * 2) = omega arith in
     let more : k + 1 ≡ suc k = omega arith in
@@ -40,7 +44,7 @@ extents-more s cs e k f lt room is h =
     ∙ ap (extents_at s) (sym (take-suc cs k 0 lt) ∙ ap (λ (n : ℕ). take n cs) (sym more))
 
 -- all of them
-pub extents-whole : (s cs e : List ℕ) (k : ℕ) → length cs ≤ k → k ≤ length cs → take (k * 2) e ≡ extents_at s (take k cs) → take (length cs * 2) e ≡ extents_at s cs
-extents-whole s cs e k a b h =
+pub extents_whole : (s cs e : List ℕ) (k : ℕ) → length cs ≤ k → k ≤ length cs → take (k * 2) e ≡ extents_at s (take k cs) → take (length cs * 2) e ≡ extents_at s cs
+extents_whole s cs e k a b h =
     let same : length cs ≡ k = omega arith in
     ap (λ (n : ℕ). take (n * 2) e) same ∙ h ∙ ap (extents_at s) (take_all k cs a)

@@ -1,4 +1,3 @@
 pub mod Constants
 pub mod Counts
 pub mod Tabled
-pub mod Starts

@@ -1,7 +1,8 @@
 -- The items of an image that was loaded, by the loader's tables.
-use Rattle.std.specs.Prelude.{ℕ, List, get_or, take}
+use Rattle.std.specs.Prelude.{ℕ, List, [], get_or, take, Result, Ok, Err}
 use Rattle.image.specs.Parse.{Got}
 use Rattle.eval.specs.declared.entry.Extent.{Extent}
+use Rattle.image.specs.declared.number.Stop.{Stop}
 use Rattle.loader.specs.Tables.{loaded_from}
 use Rattle.loader.specs.declared.load.Loaded.{Loaded}
 use Rattle.decode.specs.Extents.{extent, extents_at}
@@ -20,5 +21,10 @@ items_in s l =
     (take l.counts.functions l.functions)
     (extents_at s (take l.counts.constants l.constants))
 
+-- none where it was refused
+abbrev pub items_from : (bytes : List ℕ) → Result Loaded Stop → Items
+items_from s (Ok l) = items_in s l
+items_from s (Err e) = items s [] [] [] []
+
 abbrev pub items_of : List ℕ → Items
-items_of s = items_in s (loaded_from s)
+items_of s = items_from s (loaded_from s)

@@ -2,51 +2,51 @@
 ghost use Rattle.std.specs.Prelude.{◌≡◌};
 ghost use Rattle.eval.specs.After.{after_moved, after_entered, after_run, after_given};
 
-use crate::entry::Entered;
-use memory::{Given, Moved, Registers};
+use crate::entry::EntryError;
+use instruction::step::Progress;
+use memory::Registers;
 use run::Ran;
+use value::refusal::Refusal;
 
 // After fresh memory was made.
-pub fn after_moved(r: Moved, m: Registers) -> Registers
+pub fn after_moved(r: Result<Registers, Refusal>, m: Registers) -> Registers
     ensures { result ≡ after_moved r m }
 {
     match r {
-        Moved::Done(n) => n,
-        Moved::Refused(_) => m,
+        Ok(n) => n,
+        Err(_) => m,
     }
 }
 
 // After a start or a step.
-pub fn after_entered(r: Entered, m: Registers) -> Registers
+pub fn after_entered(r: Result<Progress, EntryError>, m: Registers) -> Registers
     ensures { result ≡ after_entered r m }
 {
     match r {
-        Entered::Went(n) => n,
-        Entered::Returned(n, _) => n,
-        Entered::Refused(_) => m,
-        Entered::NotLoaded(_, _) => m,
+        Ok(Progress::Next(n)) => n,
+        Ok(Progress::Ended(n, _)) => n,
+        Err(_) => m,
     }
 }
 
 // After a run.
-pub fn after_run(r: Ran, m: Registers) -> Registers
+pub fn after_run(r: Result<Ran, EntryError>, m: Registers) -> Registers
     ensures { result ≡ after_run r m }
 {
     match r {
-        Ran::Returned(n, _, _) => n,
-        Ran::Paused(n, _) => n,
-        Ran::Stopped(n, _, _) => n,
-        Ran::Refused(_) => m,
-        Ran::NotLoaded(_, _) => m,
+        Ok(Ran::Returned(n, _, _)) => n,
+        Ok(Ran::Paused(n, _)) => n,
+        Ok(Ran::Stopped(n, _, _)) => n,
+        Err(_) => m,
     }
 }
 
 // After an allocation.
-pub fn after_given(r: Given, m: Registers) -> Registers
+pub fn after_given(r: Result<(usize, Registers), Refusal>, m: Registers) -> Registers
     ensures { result ≡ after_given r m }
 {
     match r {
-        Given::Made(_, n) => n,
-        Given::Refused(_) => m,
+        Ok((_, n)) => n,
+        Err(_) => m,
     }
 }

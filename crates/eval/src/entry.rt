@@ -5,33 +5,38 @@ ghost use Rattle.image.specs.Number.{number};
 ghost use Rattle.decode.specs.Extents.{extents_at};
 ghost use Rattle.eval.specs.Loaded.{extent_of, items_in};
 ghost use Rattle.run.specs.Run.{running};
-ghost use Rattle.eval.specs.Entry.{entering, as_entered, read_out, reading, Bounded, run_loaded, read_loaded, step_entered, run_entered, read_entered};
+ghost use Rattle.eval.specs.Entry.{entering, as_entered, read_out, Bounded, run_loaded, read_loaded, step_entered, run_entered, read_entered};
+ghost use Rattle.eval.specs.declared.entry.EntryError.TheVariants.{Refused, NotLoaded};
 
-use image::field::Step;
-use image::number::{Number, read_number};
-use instruction::variables::Found;
+use image::number::{Stop, read_number};
+use instruction::step::Progress;
 use loader::load::{Loaded, load};
-use memory::{Outcome, Registers, read_bytes};
+use memory::{Registers, read_bytes};
 use run::{Ran, run_steps};
 use soundness::sound;
-use value::refusal::{IDLE, NOT_SOUND};
+use value::refusal::Refusal;
 
-// What a start or a step answers: the registers, or after the last Return its value too, tag 0 for none; or why it was refused,
-// an image by number and place.
-#[derive(Clone, Copy)]
-pub enum Entered {
-    Went(Registers),
-    Returned(Registers, Found),
-    Refused(u64),
-    NotLoaded(u64, usize),
+// Why an entry is refused: by a check of its own, or for its image, by number and place.
+#[derive(Clone, Copy, Debug, PartialEq, Eq)]
+pub enum EntryError {
+    Refused(Refusal),
+    NotLoaded(Stop),
 }
 
-// What a host's read answers.
-#[derive(Clone, Copy)]
-pub enum Readout {
-    Done,
-    Refused(u64),
-    NotLoaded(u64, usize),
+impl From<Refusal> for EntryError {
+    ghost from_gives = { λ n e. e ≡ Refused n };
+
+    fn from(why: Refusal) -> EntryError {
+        EntryError::Refused(why)
+    }
+}
+
+impl From<Stop> for EntryError {
+    ghost from_gives = { λ s e. e ≡ NotLoaded s };
+
+    fn from(stop: Stop) -> EntryError {
+        EntryError::NotLoaded(stop)
+    }
 }
 
 // Where a constant's bytes start in the image, and how many they are.
@@ -46,28 +51,28 @@ fn extent_at(image: &[u8], at: usize) -> Extent
     ensures { result ≡ extent_of (number image.now at) }
 {
     match read_number(image, at) {
-        Number::Value(count, start) => Extent { start, count },
-        Number::Bad(_, _) => Extent { start: 0, count: 0 },
+        Ok((count, start)) => Extent { start, count },
+        Err(_) => Extent { start: 0, count: 0 },
     }
 }
 
 // Of each constant its start and its length.
+#[tactic(auto, using(crate::proofs::Constants::extents_none, crate::proofs::Constants::extents_whole))]
 fn extents_of(image: &[u8], constants: &[usize]) -> [u64; 128]
     requires { length constants.now ≤ 64 }
     ensures { take (length constants.now * 2) result ≡ extents_at image.now constants.now }
 {
     let mut extents = [0u64; 128];
-    let mut k = 0usize;
-    while k < constants.len() {
+    for k in 0..constants.len() {
         let extent = extent_at(image, constants[k]);
         let at = k * 2;
         extents[at] = extent.start as u64;
         extents[at + 1] = extent.count;
-        k += 1;
     }
     extents
 }
 
+#[tactic(auto, using(crate::proofs::Tabled::words), unfolding(crate::specs::Entry::run_loaded))]
 fn run_loaded(
     l: Loaded,
     image: &[u8],
@@ -78,44 +83,36 @@ fn run_loaded(
     bounds: &mut [u64],
     pointers: &mut [u64],
     vars: &mut [u64],
-) -> Ran
+) -> Result<Ran, EntryError>
     requires { Bounded l }
     ensures { running result store.new frames.new bounds.new pointers.new vars.new ≡ run_loaded (items_in image.now l) budget (state (tables m store.old frames.old bounds.old pointers.old) vars.old) }
 {
     if !sound(m, store, frames, bounds, pointers, vars) {
-        return Ran::Refused(NOT_SOUND);
+        return Err(EntryError::Refused(Refusal::NotSound));
     }
     if m.running != 1 {
-        return Ran::Refused(IDLE);
+        return Err(EntryError::Refused(Refusal::Idle));
     }
-    let places = l.places;
-    let labels = l.labels;
-    let functions = l.functions;
-    let constants = l.constants;
-    let counts = l.counts;
-    let instruction_count = l.instructions;
-    let label_count = counts.blocks as usize;
-    let function_count = counts.functions as usize;
-    let constant_count = counts.constants as usize;
-    let extents = extents_of(image, &constants[0..constant_count]);
-    let extent_count = constant_count * 2;
-    run_steps(
+    let constants = l.counts.constants as usize;
+    let extents = extents_of(image, &l.constants[..constants]);
+    Ok(run_steps(
         m,
         budget as u64,
         image,
-        &places[0..instruction_count],
-        &labels[0..label_count],
-        &functions[0..function_count],
-        &extents[0..extent_count],
+        &l.places[..l.instructions],
+        &l.labels[..l.counts.blocks as usize],
+        &l.functions[..l.counts.functions as usize],
+        &extents[..constants * 2],
         store,
         frames,
         bounds,
         pointers,
         vars,
-    )
+    ))
 }
 
 // Steps until the budget is spent, the run returns, or an instruction is refused.
+#[tactic(auto, using(crate::proofs::Tabled::bounded), unfolding(crate::specs::Entry::run_entered))]
 pub fn run(
     image: &[u8],
     budget: u32,
@@ -125,27 +122,21 @@ pub fn run(
     bounds: &mut [u64],
     pointers: &mut [u64],
     vars: &mut [u64],
-) -> Ran
+) -> Result<Ran, EntryError>
     ensures { running result store.new frames.new bounds.new pointers.new vars.new ≡ run_entered image.now budget (state (tables m store.old frames.old bounds.old pointers.old) vars.old) }
 {
-    let l = load(image);
-    let end = l.end;
-    match end {
-        Step::Stop(number, place) => Ran::NotLoaded(number, place),
-        Step::At(_) => run_loaded(l, image, budget, m, store, frames, bounds, pointers, vars),
-    }
+    let l = load(image)?;
+    run_loaded(l, image, budget, m, store, frames, bounds, pointers, vars)
 }
 
 // What a run of one step answers, as a step's answer.
-fn one_step(r: Ran) -> Entered
+fn one_step(r: Result<Ran, EntryError>) -> Result<Progress, EntryError>
     ensures { result ≡ as_entered r }
 {
-    match r {
-        Ran::Paused(m, _) => Entered::Went(m),
-        Ran::Returned(m, v, _) => Entered::Returned(m, v),
-        Ran::Stopped(_, number, _) => Entered::Refused(number),
-        Ran::Refused(number) => Entered::Refused(number),
-        Ran::NotLoaded(number, place) => Entered::NotLoaded(number, place),
+    match r? {
+        Ran::Paused(m, _) => Ok(Progress::Next(m)),
+        Ran::Returned(m, v, _) => Ok(Progress::Ended(m, v)),
+        Ran::Stopped(_, why, _) => Err(EntryError::Refused(why)),
     }
 }
 
@@ -158,23 +149,13 @@ pub fn step(
     bounds: &mut [u64],
     pointers: &mut [u64],
     vars: &mut [u64],
-) -> Entered
+) -> Result<Progress, EntryError>
     ensures { entering result store.new frames.new bounds.new pointers.new vars.new ≡ step_entered image.now (state (tables m store.old frames.old bounds.old pointers.old) vars.old) }
 {
-    let r = run(image, 1, m, store, frames, bounds, pointers, vars);
-    one_step(r)
+    one_step(run(image, 1, m, store, frames, bounds, pointers, vars))
 }
 
-// An answer of the memory as that of a read.
-fn read_answer(o: Outcome) -> Readout
-    ensures { result ≡ reading o }
-{
-    match o {
-        Outcome::Done => Readout::Done,
-        Outcome::Refused(number) => Readout::Refused(number),
-    }
-}
-
+#[tactic(auto, using(crate::proofs::Tabled::words), unfolding(crate::specs::Entry::read_loaded))]
 fn read_loaded(
     l: Loaded,
     image: &[u8],
@@ -186,19 +167,16 @@ fn read_loaded(
     bounds: &[u64],
     pointers: &[u64],
     vars: &[u64],
-) -> Readout
+) -> Result<(), EntryError>
     requires { Bounded l }
     ensures { read_out result bytes.new ≡ read_loaded (items_in image.now l) p bytes.old (state (tables m store.now frames.now bounds.now pointers.now) vars.now) }
 {
     if !sound(m, store, frames, bounds, pointers, vars) {
-        return Readout::Refused(NOT_SOUND);
+        return Err(EntryError::Refused(Refusal::NotSound));
     }
-    let constants = l.constants;
-    let counts = l.counts;
-    let constant_count = counts.constants as usize;
-    let extents = extents_of(image, &constants[0..constant_count]);
-    let extent_count = constant_count * 2;
-    read_answer(read_bytes(
+    let constants = l.counts.constants as usize;
+    let extents = extents_of(image, &l.constants[..constants]);
+    let read = read_bytes(
         m,
         p,
         bytes,
@@ -207,11 +185,13 @@ fn read_loaded(
         bounds,
         pointers,
         image,
-        &extents[0..extent_count],
-    ))
+        &extents[..constants * 2],
+    );
+    Ok(read?)
 }
 
 // As many bytes as the buffer holds, read through a pointer.
+#[tactic(auto, using(crate::proofs::Tabled::bounded), unfolding(crate::specs::Entry::read_entered))]
 pub fn host_read(
     image: &[u8],
     m: Registers,
@@ -222,13 +202,9 @@ pub fn host_read(
     bounds: &[u64],
     pointers: &[u64],
     vars: &[u64],
-) -> Readout
+) -> Result<(), EntryError>
     ensures { read_out result bytes.new ≡ read_entered image.now p bytes.old (state (tables m store.now frames.now bounds.now pointers.now) vars.now) }
 {
-    let l = load(image);
-    let end = l.end;
-    match end {
-        Step::Stop(number, place) => Readout::NotLoaded(number, place),
-        Step::At(_) => read_loaded(l, image, m, p, bytes, store, frames, bounds, pointers, vars),
-    }
+    let l = load(image)?;
+    read_loaded(l, image, m, p, bytes, store, frames, bounds, pointers, vars)
 }

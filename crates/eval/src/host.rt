@@ -4,11 +4,12 @@ ghost use Rattle.memory.specs.Tables.{tables, state, out, both, listing};
 ghost use Rattle.eval.specs.Host.{host_allocated, host_written, host_listed};
 
 use live_list::live_list;
-use memory::{Given, Outcome, Registers, allocate, write_bytes};
+use memory::{Registers, allocate, write_bytes};
 use soundness::sound;
-use value::refusal::NOT_SOUND;
+use value::refusal::Refusal;
 
 // A new allocation in the top frame, and its pointer's number.
+#[tactic(auto, unfolding(crate::specs::Host::host_allocated))]
 pub fn host_allocate(
     m: Registers,
     size: usize,
@@ -17,16 +18,17 @@ pub fn host_allocate(
     bounds: &mut [u64],
     pointers: &mut [u64],
     vars: &[u64],
-) -> Given
+) -> Result<(usize, Registers), Refusal>
     ensures { out result store.new frames.new bounds.new pointers.new ≡ host_allocated (state (tables m store.old frames.old bounds.old pointers.old) vars.now) size }
 {
-    if sound(m, store, frames, bounds, pointers, vars) {
-        return allocate(m, size, store, frames, bounds, pointers);
+    if !sound(m, store, frames, bounds, pointers, vars) {
+        return Err(Refusal::NotSound);
     }
-    Given::Refused(NOT_SOUND)
+    allocate(m, size, store, frames, bounds, pointers)
 }
 
 // Bytes written through a pointer.
+#[tactic(auto, unfolding(crate::specs::Host::host_written))]
 pub fn host_write(
     m: Registers,
     p: usize,
@@ -36,16 +38,17 @@ pub fn host_write(
     bounds: &[u64],
     pointers: &[u64],
     vars: &[u64],
-) -> Outcome
+) -> Result<(), Refusal>
     ensures { both result store.new ≡ host_written (state (tables m store.old frames.now bounds.now pointers.now) vars.now) p bytes.now }
 {
-    if sound(m, store, frames, bounds, pointers, vars) {
-        return write_bytes(m, p, bytes, store, frames, bounds, pointers);
+    if !sound(m, store, frames, bounds, pointers, vars) {
+        return Err(Refusal::NotSound);
     }
-    Outcome::Refused(NOT_SOUND)
+    write_bytes(m, p, bytes, store, frames, bounds, pointers)
 }
 
 // The live list, in four slices.
+#[tactic(auto, unfolding(crate::specs::Host::host_listed))]
 pub fn host_list(
     m: Registers,
     store: &[u8],
@@ -57,13 +60,13 @@ pub fn host_list(
     frame: &mut [u64],
     allocation: &mut [u64],
     offset: &mut [u64],
-) -> Outcome
+) -> Result<(), Refusal>
     ensures { listing result live.new frame.new allocation.new offset.new ≡ host_listed (state (tables m store.now frames.now bounds.now pointers.now) vars.now) live.old frame.old allocation.old offset.old }
 {
-    if sound(m, store, frames, bounds, pointers, vars) {
-        return live_list(
-            m, store, frames, bounds, pointers, live, frame, allocation, offset,
-        );
+    if !sound(m, store, frames, bounds, pointers, vars) {
+        return Err(Refusal::NotSound);
     }
-    Outcome::Refused(NOT_SOUND)
+    live_list(
+        m, store, frames, bounds, pointers, live, frame, allocation, offset,
+    )
 }

@@ -1,11 +1,14 @@
 -- From a tag and bits to a value and back: what the code's operations answer is what the definitions do, found again as tag and bits.
+use Rattle.std.specs.Prelude.{Some, None, Result, Ok, Err, ok_or}
+use Rattle.std.specs.Result.{result_ok}
 use Prim.Native.Nat.{ℕ, ◌<◌}
 use native.Mathlib.Omega.{arith}
 use mathlib.Core.Bool.{Bool, true, false}
 use mathlib.Core.Path.{◌≡◌, refl, sym, ap, ◌∙◌, subst}
 use mathlib.Core.Option.{Option, none, some}
 use lib.Dec.{eqb}
-use borrow.Author.Tests.{eq-eqb, ne_eqb, lt-ltb}
+use borrow.Author.Tests.{lt-ltb}
+use Rattle.value.specs.declared.refusal.Refusal.{Refusal}
 use Rattle.value.specs.Refusal.{not_sound, no_instruction}
 use Rattle.value.specs.Answer.{Answer, ok, refused, need, pick, ◌>>=◌}
 use Rattle.value.specs.Value.{Value, value, Kind, tag, IntCmp, Eq, Ne, ULt, ULe, UGt, UGe, SLt, SLe, SGt, SGe, FloatCmp, FEq, FNe, FLt, FLe, FGt, FGe, compare_ints, compare_floats, divide_floats, size}
@@ -16,59 +19,52 @@ use Rattle.value.specs.Compare.{int_cmp_of, ir_int_cmp, int_comparison, float_cm
 use Rattle.value.specs.declared.IrValue.{IrValue}
 use Rattle.value.specs.declared.IrValue.TheVariants.{F64}
 use Rattle.value.specs.declared.Double.{Double}
-use Rattle.value.specs.declared.Made.TheVariants as M
-use Rattle.value.specs.declared.IntCmp as I
-use Rattle.value.specs.declared.FloatCmp as F
-use Rattle.value.specs.declared.IntComparison.TheVariants as Ic
-use Rattle.value.specs.declared.FloatComparison.TheVariants as Fc
 use Rattle.value.proofs.Roundtrip.{bits_back}
-use Rattle.value.proofs.Truth.{is_true}
-use Rattle.instruction.specs.Variables.{found}
+use Rattle.value.proofs.Truth.{is_true, is_yes}
+use Rattle.instruction.specs.Code.{either}
 use Rattle.instruction.specs.Compute.{stored, answer_of, found_of, found_as, compared_ints, compared_floats, operated, with_second, binary_of, altered, unary_of}
 use Rattle.instruction.specs.declared.variables.Found.{Found}
 use Rattle.machine.proofs.Values.{Keeps, kept, no_answer, Good, arithmetic-good, divided_good, compared_ints_good, compared_floats_good, notted-good, negated-good}
 
 -- ---- a value out of its tag and bits
 
-value-at : (k : Kind) (b : ℕ) (h : Bool) → holds k b ≡ h → (v : IrValue) → pick h (M.Value (ir_of k b)) M.Nothing ≡ M.Value v → need h not_sound (ok (value k b)) ≡ ok (value_of v)
-unfolding need
+-- as the code makes it
+pub as_value : (o : Option Kind) (b : ℕ) → ok_or (made o b) not_sound ≡ computed (stored o b)
+unfolding made computed need
+as_value none b = refl
+as_value (some k) b = go (holds k b)
+  where
+    go : (h : Bool) → ok_or (pick h (Some (ir_of k b)) None) not_sound ≡ computed (need h not_sound (ok (value k b)))
+    go true = refl
+    go false = refl
+
+value-at : (k : Kind) (b : ℕ) (h : Bool) → holds k b ≡ h → (v : IrValue) → computed (need h not_sound (ok (value k b))) ≡ Ok v → need h not_sound (ok (value k b)) ≡ ok (value_of v)
+unfolding need computed
 value-at k b true h v e = let same : ir_of k b ≡ v = cc in ap ok (sym (bits_back k b h) ∙ ap value_of same)
 value-at k b false h v e = absurd (let z : ◌≡◌ {A = ℕ} 0 1 = cc in omega arith)
 
-made-value : (o : Option Kind) (b : ℕ) (v : IrValue) → made o b ≡ M.Value v → stored o b ≡ ok (value_of v)
-unfolding made
-made-value none b v e = absurd (let z : ◌≡◌ {A = ℕ} 0 1 = cc in omega arith)
-made-value (some k) b v e = value-at k b (holds k b) refl v e
+-- the value that was made, or the refusal
+pub valued : (y : Found) (v : IrValue) → computed (answer_of (Ok y)) ≡ Ok v → answer_of (Ok y) ≡ ok (value_of v)
+unfolding answer_of computed
+valued y v e = go (kind_at y.tag) e
+  where
+    go : (o : Option Kind) → computed (stored o y.bits) ≡ Ok v → stored o y.bits ≡ ok (value_of v)
+    go none d = absurd (let z : ◌≡◌ {A = ℕ} 0 1 = cc in omega arith)
+    go (some k) d = value-at k y.bits (holds k y.bits) refl v d
 
-nothing-at : (k : Kind) (b : ℕ) (h : Bool) → pick h (M.Value (ir_of k b)) M.Nothing ≡ M.Nothing → need h not_sound (ok (value k b)) ≡ refused not_sound
-unfolding need
-nothing-at k b true e = absurd (let z : ◌≡◌ {A = ℕ} 0 1 = cc in omega arith)
-nothing-at k b false e = refl
-
-made_nothing : (o : Option Kind) (b : ℕ) → made o b ≡ M.Nothing → stored o b ≡ refused not_sound
-unfolding made
-made_nothing none b e = refl
-made_nothing (some k) b e = nothing-at k b (holds k b) e
-
-module _ (y : Found) where
-  -- a refusal, found again
-  pub refused-first : y.tag ≡ 0 → answer_of y ≡ refused y.bits
-  unfolding answer_of
-  refused-first e = rw (eq-eqb y.tag 0 e)
-
-  pub value-first : (y.tag ≡ 0 → ⊥) → (v : IrValue) → made (kind_at y.tag) y.bits ≡ M.Value v → answer_of y ≡ ok (value_of v)
-  unfolding answer_of
-  value-first n v e = rw (ne_eqb y.tag 0 n) (made-value (kind_at y.tag) y.bits v e)
-
-  pub unsound_first : (y.tag ≡ 0 → ⊥) → made (kind_at y.tag) y.bits ≡ M.Nothing → answer_of y ≡ refused not_sound
-  unfolding answer_of
-  unsound_first n e = rw (ne_eqb y.tag 0 n) (made_nothing (kind_at y.tag) y.bits e)
+pub unvalued : (y : Found) (n : Refusal) → computed (answer_of (Ok y)) ≡ Err n → answer_of (Ok y) ≡ refused n
+unfolding computed
+unvalued y n e = go (answer_of (Ok y)) e
+  where
+    go : (a : Answer Value) → computed a ≡ Err n → a ≡ refused n
+    go (ok v) d = absurd (let z : ◌≡◌ {A = ℕ} 0 1 = cc in omega arith)
+    go (refused m) d = let same : m ≡ n = cc in ap refused same
 
 -- ---- an answer, as tag and bits
 
-found_back : (a : Answer Value) → Keeps Good a → found_as (computed a) ≡ found_of a
+pub found_back : (a : Answer Value) → Keeps Good a → found_as (computed a) ≡ found_of a
 unfolding computed
-found_back (ok v) (kept g) = ap (λ (w : Value). found (tag w.kind) w.bits) (bits_back v.kind v.bits (is_true (holds v.kind v.bits) g))
+found_back (ok v) (kept g) = ap (λ (w : Value). found_of (ok w)) (bits_back v.kind v.bits (is_true (holds v.kind v.bits) g))
 found_back (refused n) k = refl
 
 keeps-pick : (b : Bool) {x y : Answer Value} → Keeps Good x → Keeps Good y → Keeps Good (pick b x y)
@@ -122,103 +118,118 @@ float_there FGt = refl
 float_there FGe = refl
 
 module _ (x y : Value) where
-  pub ints_compared : (o : Option IntCmp) (cmp : I.IntCmp) → int_comparison o ≡ Ic.Is cmp → compared_ints o x y ≡ compare_ints (int_cmp_of cmp) x y
-  unfolding int_comparison compared_ints
-  ints_compared none cmp e = absurd (let z : ◌≡◌ {A = ℕ} 0 1 = cc in omega arith)
-  ints_compared (some c) cmp e = let same : ir_int_cmp c ≡ cmp = cc in ap (λ (d : IntCmp). compare_ints d x y) (sym (int_there c) ∙ ap int_cmp_of same)
+  pub ints_compared : (o : Option IntCmp) → computed (compared_ints o x y) ≡ either (ok_or (int_comparison o) no_instruction) (λ n. Err n) (λ c. computed (compare_ints (int_cmp_of c) x y))
+  unfolding int_comparison compared_ints computed
+  ints_compared none = refl
+  ints_compared (some c) = ap (λ (d : IntCmp). computed (compare_ints d x y)) (sym (int_there c))
 
-  pub ints_none : (o : Option IntCmp) → int_comparison o ≡ Ic.Nothing → compared_ints o x y ≡ refused no_instruction
-  unfolding int_comparison compared_ints
-  ints_none none e = refl
-  ints_none (some c) e = absurd (let z : ◌≡◌ {A = ℕ} 0 1 = cc in omega arith)
-
-  pub floats_compared : (o : Option FloatCmp) (cmp : F.FloatCmp) → float_comparison o ≡ Fc.Is cmp → compared_floats o x y ≡ compare_floats (float_cmp_of cmp) x y
-  unfolding float_comparison compared_floats
-  floats_compared none cmp e = absurd (let z : ◌≡◌ {A = ℕ} 0 1 = cc in omega arith)
-  floats_compared (some c) cmp e = let same : ir_float_cmp c ≡ cmp = cc in ap (λ (d : FloatCmp). compare_floats d x y) (sym (float_there c) ∙ ap float_cmp_of same)
-
-  pub floats_none : (o : Option FloatCmp) → float_comparison o ≡ Fc.Nothing → compared_floats o x y ≡ refused no_instruction
-  unfolding float_comparison compared_floats
-  floats_none none e = refl
-  floats_none (some c) e = absurd (let z : ◌≡◌ {A = ℕ} 0 1 = cc in omega arith)
+  pub floats_compared : (o : Option FloatCmp) → computed (compared_floats o x y) ≡ either (ok_or (float_comparison o) no_instruction) (λ n. Err n) (λ c. computed (compare_floats (float_cmp_of c) x y))
+  unfolding float_comparison compared_floats computed
+  floats_compared none = refl
+  floats_compared (some c) = ap (λ (d : FloatCmp). computed (compare_floats d x y)) (sym (float_there c))
 
 -- ---- the second operand, and the first
 
 module _ (opcode how : ℕ) where
-  pub second-refused : (v : Value) (y : Found) → y.tag ≡ 0 → y ≡ found_of (with_second opcode how v y)
-  unfolding with_second ◌>>=◌
-  second-refused v y e = ap (λ (t : ℕ). found t y.bits) e ∙ ap (λ (a : Answer Value). found_of (a >>= λ w. operated opcode how v w)) (sym (refused-first y e))
+  module _ (v : Value) (y : Found) where
+    second_value : (b : IrValue) → computed (answer_of (Ok y)) ≡ Ok b → found_of (with_second opcode how v (Ok y)) ≡ found_as (computed (operated opcode how v (value_of b)))
+    unfolding with_second ◌>>=◌
+    second_value b e = rw (valued y b e) (sym (found_back (operated opcode how v (value_of b)) (operated-good opcode how v (value_of b))))
 
-  pub second-value : (v : Value) (y : Found) (b : IrValue) (r : Found) → (y.tag ≡ 0 → ⊥) → made (kind_at y.tag) y.bits ≡ M.Value b → r ≡ found_as (computed (operated opcode how v (value_of b)))
-      → r ≡ found_of (with_second opcode how v y)
-  unfolding with_second ◌>>=◌
-  second-value v y b r n e d =
-      d ∙ found_back (operated opcode how v (value_of b)) (operated-good opcode how v (value_of b))
-      ∙ ap (λ (a : Answer Value). found_of (a >>= λ w. operated opcode how v w)) (sym (value-first y n b e))
+    second_unsound : (n : Refusal) → computed (answer_of (Ok y)) ≡ Err n → with_second opcode how v (Ok y) ≡ refused n
+    unfolding with_second ◌>>=◌
+    second_unsound n e = rw (unvalued y n e) refl
 
-  pub second_unsound : (v : Value) (y : Found) → (y.tag ≡ 0 → ⊥) → made (kind_at y.tag) y.bits ≡ M.Nothing → found 0 not_sound ≡ found_of (with_second opcode how v y)
-  unfolding with_second ◌>>=◌
-  second_unsound v y n e = ap (λ (a : Answer Value). found_of (a >>= λ w. operated opcode how v w)) (sym (unsound_first y n e))
+    pub second_is : found_of (with_second opcode how v (Ok y)) ≡ either (computed (answer_of (Ok y))) (λ n. Err n) (λ b. found_as (computed (operated opcode how v (value_of b))))
+    second_is = go (computed (answer_of (Ok y))) refl
+      where
+        go : (r : Result IrValue Refusal) → computed (answer_of (Ok y)) ≡ r → found_of (with_second opcode how v (Ok y)) ≡ either r (λ n. Err n) (λ b. found_as (computed (operated opcode how v (value_of b))))
+        go (Ok b) e = second_value b e
+        go (Err n) e = ap found_of (second_unsound n e)
 
-  pub first-refused : (x y : Found) → x.tag ≡ 0 → x ≡ found_of (binary_of opcode how x y)
-  unfolding binary_of ◌>>=◌
-  first-refused x y e = ap (λ (t : ℕ). found t x.bits) e ∙ ap (λ (a : Answer Value). found_of (a >>= λ v. with_second opcode how v y)) (sym (refused-first x e))
+  pub second_refused : (v : Value) (n : Refusal) → with_second opcode how v (Err n) ≡ refused n
+  unfolding with_second answer_of ◌>>=◌
+  second_refused v n = refl
 
-  pub first-value : (x y : Found) (a : IrValue) (r : Found) → (x.tag ≡ 0 → ⊥) → made (kind_at x.tag) x.bits ≡ M.Value a → r ≡ found_of (with_second opcode how (value_of a) y)
-      → r ≡ found_of (binary_of opcode how x y)
-  unfolding binary_of ◌>>=◌
-  first-value x y a r n e d = d ∙ ap (λ (b : Answer Value). found_of (b >>= λ v. with_second opcode how v y)) (sym (value-first x n a e))
+  module _ (x : Found) (y : Result Found Refusal) where
+    first_value : (a : IrValue) → computed (answer_of (Ok x)) ≡ Ok a → binary_of opcode how (Ok x) y ≡ with_second opcode how (value_of a) y
+    unfolding binary_of ◌>>=◌
+    first_value a e = rw (valued x a e) refl
 
-  pub first_unsound : (x y : Found) → (x.tag ≡ 0 → ⊥) → made (kind_at x.tag) x.bits ≡ M.Nothing → found 0 not_sound ≡ found_of (binary_of opcode how x y)
-  unfolding binary_of ◌>>=◌
-  first_unsound x y n e = ap (λ (a : Answer Value). found_of (a >>= λ v. with_second opcode how v y)) (sym (unsound_first x n e))
+    first_unsound : (n : Refusal) → computed (answer_of (Ok x)) ≡ Err n → binary_of opcode how (Ok x) y ≡ refused n
+    unfolding binary_of ◌>>=◌
+    first_unsound n e = rw (unvalued x n e) refl
+
+    pub first_is : found_of (binary_of opcode how (Ok x) y) ≡ either (computed (answer_of (Ok x))) (λ n. Err n) (λ a. found_of (with_second opcode how (value_of a) y))
+    first_is = go (computed (answer_of (Ok x))) refl
+      where
+        go : (r : Result IrValue Refusal) → computed (answer_of (Ok x)) ≡ r → found_of (binary_of opcode how (Ok x) y) ≡ either r (λ n. Err n) (λ a. found_of (with_second opcode how (value_of a) y))
+        go (Ok a) e = ap found_of (first_value a e)
+        go (Err n) e = ap found_of (first_unsound n e)
+
+  pub first_refused : (y : Result Found Refusal) (n : Refusal) → binary_of opcode how (Err n) y ≡ refused n
+  unfolding binary_of answer_of ◌>>=◌
+  first_refused y n = refl
 
 -- an F64 of its bits
-double-made : (x : Found) → x.tag ≡ 11 → x.bits < 18446744073709551616 → made (kind_at x.tag) x.bits ≡ M.Value (F64 (double x.bits))
-unfolding made kind_at named tag holds ir_of size
+double-made : (x : Found) → x.tag ≡ 11 → x.bits < 18446744073709551616 → computed (answer_of (Ok x)) ≡ Ok (F64 (double x.bits))
+unfolding computed answer_of need kind_at named tag holds ir_of size
 double-made x e h = rw (e, lt-ltb x.bits 18446744073709551616 h)
 
+-- an answer that `ok` keeps
+pub ok_is : (x : Result Found Refusal) (r : Found) → result_ok x ≡ Some r → x ≡ Ok r
+ok_is (Ok v) r e = let same : v ≡ r = cc in ap Ok same
+ok_is (Err n) r e = absurd (let z : ◌≡◌ {A = ℕ} 0 1 = cc in omega arith)
+
 -- FDiv of two F64, by what the code's own division answers
-pub quotients : (opcode how : ℕ) (x y : Found) (a b : Double) (r : Found) → opcode ≡ 13 → x.tag ≡ 11 → y.tag ≡ 11 → x.bits < 18446744073709551616 → y.bits < 18446744073709551616
-    → a ≡ double x.bits → b ≡ double y.bits → r ≡ found_as (computed (divide_floats (value_of (F64 a)) (value_of (F64 b)))) → r ≡ found_of (binary_of opcode how x y)
+pub quotients : (opcode how : ℕ) (x y : Found) (a b : Double) (r : Result Found Refusal) → opcode ≡ 13 → x.tag ≡ 11 → y.tag ≡ 11 → x.bits < 18446744073709551616 → y.bits < 18446744073709551616
+    → a ≡ double x.bits → b ≡ double y.bits → r ≡ found_as (computed (divide_floats (value_of (F64 a)) (value_of (F64 b)))) → r ≡ found_of (binary_of opcode how (Ok x) (Ok y))
 unfolding operated
 quotients opcode how x y a b r e d f h k i j g =
-    let some : x.tag ≡ 0 → ⊥ = λ z. omega arith in
-    let other : y.tag ≡ 0 → ⊥ = λ z. omega arith in
-    rw e
-    (first-value 13 how x y (F64 (double x.bits)) r some (double-made x d h)
-    (second-value 13 how (value_of (F64 (double x.bits))) y (F64 (double y.bits)) r other (double-made y f k)
-    (g ∙ ap (λ (z : Double). found_as (computed (divide_floats (value_of (F64 z)) (value_of (F64 b))))) i ∙ ap (λ (z : Double). found_as (computed (divide_floats (value_of (F64 (double x.bits))) (value_of (F64 z))))) j)))
+    rw (e, first_value 13 how x (Ok y) (F64 (double x.bits)) (double-made x d h), second_value 13 how (value_of (F64 (double x.bits))) y (F64 (double y.bits)) (double-made y f k))
+    (g ∙ ap (λ (z : Double). found_as (computed (divide_floats (value_of (F64 z)) (value_of (F64 b))))) i ∙ ap (λ (z : Double). found_as (computed (divide_floats (value_of (F64 (double x.bits))) (value_of (F64 z))))) j)
 
 -- ---- one operand
 
-good-at : (k : Kind) (b : ℕ) (h : Bool) → holds k b ≡ h → (v : IrValue) → pick h (M.Value (ir_of k b)) M.Nothing ≡ M.Value v → Good (value_of v)
-good-at k b true h v e =
-    let same : ir_of k b ≡ v = cc in
-    subst (λ (w : Value). Good w) (sym (bits_back k b h) ∙ ap value_of same) (rw h tt)
-good-at k b false h v e = absurd (let z : ◌≡◌ {A = ℕ} 0 1 = cc in omega arith)
+stored-good : (o : Option Kind) (b : ℕ) → Keeps Good (stored o b)
+unfolding need
+stored-good none b = no_answer
+stored-good (some k) b = go (holds k b) refl
+  where
+    go : (h : Bool) → holds k b ≡ h → Keeps Good (need h not_sound (ok (value k b)))
+    go true e = kept (is_yes e)
+    go false e = no_answer
 
-made-good : (o : Option Kind) (b : ℕ) (v : IrValue) → made o b ≡ M.Value v → Good (value_of v)
-unfolding made
-made-good none b v e = absurd (let z : ◌≡◌ {A = ℕ} 0 1 = cc in omega arith)
-made-good (some k) b v e = good-at k b (holds k b) refl v e
+-- a value that was made is one of its kind
+value-good : (y : Found) (v : IrValue) → computed (answer_of (Ok y)) ≡ Ok v → Good (value_of v)
+unfolding answer_of
+value-good y v e = go (stored (kind_at y.tag) y.bits) (stored-good (kind_at y.tag) y.bits) (valued y v e)
+  where
+    go : (a : Answer Value) → Keeps Good a → a ≡ ok (value_of v) → Good (value_of v)
+    go (ok w) (kept g) d = let same : w ≡ value_of v = cc in subst (λ (u : Value). Good u) same g
+    go (refused n) k d = absurd (let z : ◌≡◌ {A = ℕ} 0 1 = cc in omega arith)
 
 altered-good : (n : ℕ) (v : Value) → Good v → Keeps Good (altered n v)
 unfolding altered
 altered-good n v g = keeps-pick (eqb n 14) (notted-good v g) (keeps-pick (eqb n 15) (negated-good v) no_answer)
 
-module _ (opcode : ℕ) (x : Found) where
-  pub alone_refused : x.tag ≡ 0 → x ≡ found_of (unary_of opcode x)
+module _ (opcode : ℕ) where
+  pub alone_is : (x : Found) → found_of (unary_of opcode (Ok x)) ≡ either (computed (answer_of (Ok x))) (λ n. Err n) (λ a. found_as (computed (altered opcode (value_of a))))
   unfolding unary_of ◌>>=◌
-  alone_refused e = ap (λ (t : ℕ). found t x.bits) e ∙ ap (λ (a : Answer Value). found_of (a >>= λ v. altered opcode v)) (sym (refused-first x e))
+  alone_is x = go (computed (answer_of (Ok x))) refl
+    where
+      go : (r : Result IrValue Refusal) → computed (answer_of (Ok x)) ≡ r → found_of (unary_of opcode (Ok x)) ≡ either r (λ n. Err n) (λ a. found_as (computed (altered opcode (value_of a))))
+      go (Ok a) e = rw (valued x a e) (sym (found_back (altered opcode (value_of a)) (altered-good opcode (value_of a) (value-good x a e))))
+      go (Err n) e = rw (unvalued x n e) refl
 
-  pub alone_value : (a : IrValue) (r : Found) → (x.tag ≡ 0 → ⊥) → made (kind_at x.tag) x.bits ≡ M.Value a → r ≡ found_as (computed (altered opcode (value_of a)))
-      → r ≡ found_of (unary_of opcode x)
-  unfolding unary_of ◌>>=◌
-  alone_value a r n e d =
-      d ∙ found_back (altered opcode (value_of a)) (altered-good opcode (value_of a) (made-good (kind_at x.tag) x.bits a e))
-      ∙ ap (λ (b : Answer Value). found_of (b >>= λ v. altered opcode v)) (sym (value-first x n a e))
+  pub alone_refused : (n : Refusal) → unary_of opcode (Err n) ≡ refused n
+  unfolding unary_of answer_of ◌>>=◌
+  alone_refused n = refl
 
-  pub alone_unsound : (x.tag ≡ 0 → ⊥) → made (kind_at x.tag) x.bits ≡ M.Nothing → found 0 not_sound ≡ found_of (unary_of opcode x)
-  unfolding unary_of ◌>>=◌
-  alone_unsound n e = ap (λ (a : Answer Value). found_of (a >>= λ v. altered opcode v)) (sym (unsound_first x n e))
+-- ---- what the code's functions cite
+
+pub ruleset first = (first_is, first_refused)
+
+pub ruleset second = (second_is, second_refused)
+
+pub ruleset alone = (alone_is, alone_refused)

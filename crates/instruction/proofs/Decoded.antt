@@ -5,6 +5,7 @@ use borrow.Author.Tests.{ne_eqb}
 use mathlib.Core.Bool.{Bool, true, false}
 use mathlib.Core.Path.{◌≡◌, refl, subst}
 use mathlib.Core.List.{List}
+use Rattle.value.specs.declared.refusal.Refusal.{Refusal}
 use Rattle.value.specs.Answer.{pick}
 use Rattle.value.specs.Value.{tag}
 use Rattle.image.specs.Parse.{Got, took, refused, and_then}
@@ -17,7 +18,7 @@ use Rattle.instruction.specs.declared.field.Operand as code
 
 -- ---- numbers
 
-no_took : {A : Type 0} {k p n : ℕ} {a : A} → refused k p ≡ took a n → ⊥
+no_took : {A : Type 0} {k : Refusal} {p n : ℕ} {a : A} → refused k p ≡ took a n → ⊥
 no_took e = let z : ◌≡◌ {A = ℕ} 0 1 = cc in omega arith
 
 pub field-took : (s : List ℕ) (at v next : ℕ) → 0 < at → number s at ≡ took v next → field_at s at ≡ field v next
@@ -26,7 +27,7 @@ field-took s at v next l e = rw (ne_eqb at 0 (λ z. omega arith), e)
 
 -- ---- fields
 
-pub such-took : (s : List ℕ) (test : ℕ → Bool) (why at v next : ℕ) → such s test why at ≡ took v next → (number s at ≡ took v next) × (test v ≡ true)
+pub such-took : (s : List ℕ) (test : ℕ → Bool) (why : Refusal) (at v next : ℕ) → such s test why at ≡ took v next → (number s at ≡ took v next) × (test v ≡ true)
 unfolding such and_then
 such-took s test why at v next e = go (number s at) e
   where

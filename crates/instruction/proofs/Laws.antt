@@ -1,4 +1,4 @@
--- How a Switch's branches are gone through, one after another: the laws that the proofs of its functions share.
+-- How a Switch's branches are gone through, one after another.
 use Prim.Native.Nat.{ℕ, zero, suc, ◌-◌, ◌<◌}
 use native.Mathlib.Numerals.{sub-one}
 use native.Mathlib.Omega.{arith}
@@ -26,3 +26,5 @@ pub branch-none : (s : List ℕ) (bits at n : ℕ) → n ≡ 0 → branch_of s n
 unfolding branch_of
 branch-none s bits at zero e = refl
 branch-none s bits at (suc n) e = absurd (omega arith)
+
+pub ruleset branches = (branch-hit, branch_on, branch-none)

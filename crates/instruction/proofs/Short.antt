@@ -3,10 +3,10 @@ use Prim.Native.Nat.{ℕ, zero, suc, ◌+◌, ◌-◌, ◌*◌, ◌/◌, ◌%◌
 use native.Mathlib.Omega.{arith}
 use mathlib.Core.Bool.{Bool, true, false}
 use mathlib.Core.List.{List}
-use mathlib.Core.Path.{◌≡◌, refl, sym, ap, ◌∙◌, subst}
+use mathlib.Core.Path.{◌≡◌, refl, sym, ap, ◌∙◌}
 use lib.ListN.{length, get_or}
-use lib.Dec.{ltb, eqb}
-use borrow.Author.Tests.{lt-leb, lt-ltb, ltb-true, ltb-false, ne_eqb, eqb-true, eqb-false}
+use lib.Dec.{eqb}
+use borrow.Author.Tests.{lt-leb, lt-ltb, ne_eqb}
 use Rattle.value.specs.Answer.{pick}
 use Rattle.image.specs.Parse.{took}
 use Rattle.image.specs.Number.{number, groups}
@@ -28,47 +28,6 @@ one_byte s at h k =
 pub field_of_byte : (s : List ℕ) (at byte : ℕ) → (at ≡ 0 → ⊥) → at < length s → byte ≡ get_or s at 0 → byte < 128 → field byte (at + 1) ≡ field_at s at
 unfolding field_at
 field_of_byte s at byte z h e k = rw (ne_eqb _ _ z, one_byte s at h (omega arith), e) refl
-
--- one byte more that is no more than the greatest
-pub none_above : (s : List ℕ) (start at old new : ℕ) → ((i : ℕ) → start ≤ i → i < at → get_or s i 0 ≤ old) → old ≤ new → get_or s at 0 ≤ new → (i : ℕ) → start ≤ i → i < at + 1 → get_or s i 0 ≤ new
-none_above s start at old new h p q i a b = go (ltb i at) refl
-  where
-    go : (t : Bool) → ltb i at ≡ t → get_or s i 0 ≤ new
-    go true e = omega (arith, h i a (ltb-true i at e))
-    go false e = let same : i ≡ at = omega (arith, ltb-false i at e) in rw same q
-
--- ---- the first even place with a number
-
-module _ (s : List ℕ) (start k number old new pick : ℕ) (f : First s start k number old) (p : new ≤ old) (q : new ≤ pick) (or : (new ≡ old → ⊥) → new ≡ pick)
-    (yes : k % 2 ≡ 0 → get_or s (start + k) 0 ≡ number → pick ≡ k) (only : (pick ≡ 255 → ⊥) → (pick ≡ k) × (k % 2 ≡ 0) × (get_or s (start + k) 0 ≡ number)) where
-  least_more : (j : ℕ) → j < k + 1 → j % 2 ≡ 0 → get_or s (start + j) 0 ≡ number → new ≤ j
-  least_more j h e d = go (ltb j k) refl
-    where
-      go : (t : Bool) → ltb j k ≡ t → new ≤ j
-      go true l = omega (arith, f.least j (ltb-true j k l) e d)
-      go false l =
-          let same : j ≡ k = omega (arith, ltb-false j k l) in
-          omega (arith, yes (rw (sym same) e) (rw (sym same) d))
-
-  -- what holds of the old and of the new place holds of the lesser
-  of-both : (P : ℕ → Type 0) → ((old ≡ 255 → ⊥) → P old) → ((pick ≡ 255 → ⊥) → P pick) → (new ≡ 255 → ⊥) → P new
-  of-both P a b n = go (eqb new old) refl
-    where
-      go : (t : Bool) → eqb new old ≡ t → P new
-      go true e = let same = eqb-true new old e in subst P (sym same) (a (λ z. n (same ∙ z)))
-      go false e = let same = or (eqb-false new old e) in subst P (sym same) (b (λ z. n (same ∙ z)))
-
-  -- one byte more
-  pub first_more : First s start (k + 1) number new
-  first_more = record {
-    least = least_more;
-    within = of-both (λ (i : ℕ). i < k + 1) (λ n. omega (arith, f.within n)) (λ n. omega (arith, (only n).0));
-    even = of-both (λ (i : ℕ). i % 2 ≡ 0) f.even (λ n. ap (λ (i : ℕ). i % 2) (only n).0 ∙ (only n).1);
-    hit = of-both (λ (i : ℕ). get_or s (start + i) 0 ≡ number) f.hit (λ n. ap (λ (i : ℕ). get_or s (start + i) 0) (only n).0 ∙ (only n).2);
-  }
-
-pub first-none : (s : List ℕ) (start number : ℕ) → First s start 0 number 255
-first-none s start number = record { least = λ k h e d. omega arith; within = λ n. absurd (n refl); even = λ n. absurd (n refl); hit = λ n. absurd (n refl) }
 
 -- ---- branches whose numbers and labels have one byte each
 
@@ -120,8 +79,8 @@ module _ (s : List ℕ) (start count bits : ℕ) (p : Pairs s start count) where
         omega (arith, f.least (i * 2) h even e)
 
     -- the first place with the number has its label after it
-    pub first-hit : (first ≡ 255 → ⊥) → field_at s (start + first + 1) ≡ branch_of s count bits start
-    first-hit n =
+    pub first_hit : (first ≡ 255 → ⊥) → field_at s (start + first + 1) ≡ branch_of s count bits start
+    first_hit n =
         let j = first / 2 in
         let w = f.within n in
         let e = f.even n in
@@ -137,3 +96,5 @@ module _ (s : List ℕ) (start count bits : ℕ) (p : Pairs s start count) where
     first_missing n c =
         sym (branch-none s bits (start + count * 2) (count - count) (omega arith))
         ∙ passed count (omega arith) (λ i l. misses i (omega arith) (omega arith))
+
+pub ruleset pairs = (many_pairs, first_hit, first_missing)

@@ -1,4 +1,5 @@
 -- Unsigned integers of one kind are added, subtracted and compared by their bits: kind by kind, where the definitions compute.
+use Rattle.std.specs.Prelude.{Result, Ok}
 use Prim.Native.Nat.{ℕ, ◌+◌, ◌-◌, ◌≤◌}
 use native.Mathlib.Omega.{arith}
 use mathlib.Core.Bool.{Bool, true, false}
@@ -6,6 +7,7 @@ use mathlib.Core.Path.{◌≡◌, refl, sym, ap, ◌∙◌}
 use lib.Dec.{ltb, leb, eqb}
 use lib.IntN.{ℤ, pos, ◌-ℤ◌, pos-+ℤ-pos, +ℤ-neg_ℤ_cancel}
 use borrow.Author.Tests.{lt-ltb, le-ltb, le-leb, lt-leb, ltb-true, ltb-false, eqb-true, eqb-false}
+use Rattle.value.specs.declared.refusal.Refusal.{Refusal}
 use Rattle.value.specs.Answer.{ok, need, pick, ◌>>=◌}
 use Rattle.value.specs.Value.{Value, value, Kind, tag, size, family, arithmetic, operate, checked, integer, bits_of, compare_ints, unsigned_order, naturals, passes, truth, Test, lt, le, gt, ge, less, equal, greater}
 use Rattle.value.specs.Value as Kinds
@@ -21,7 +23,7 @@ kind u16 = Kinds.u16
 kind u32 = Kinds.u32
 kind u64 = Kinds.u64
 
-whole : {t top : ℕ} (u : Unsigned t top) (b : ℕ) → b ≤ top → answer_of (found t b) ≡ ok (value (kind u) b)
+whole : {t top : ℕ} (u : Unsigned t top) (b : ℕ) → b ≤ top → answer_of (Ok (found t b)) ≡ ok (value (kind u) b)
 unfolding answer_of kind_at named tag holds need kind
 whole u8 b h = rw (lt-ltb b 256 (omega arith))
 whole u16 b h = rw (lt-ltb b 65536 (omega arith))
@@ -33,14 +35,14 @@ minus a b h =
     let e : a ≡ a - b + b = omega arith in
     ap (λ (n : ℕ). pos n -ℤ pos b) e ∙ ap (λ (z : ℤ). z -ℤ pos b) (sym (pos-+ℤ-pos (a - b) b)) ∙ +ℤ-neg_ℤ_cancel (pos (a - b)) (pos b)
 
-added : {t top : ℕ} (u : Unsigned t top) (how a b : ℕ) → a + b ≤ top → found t (a + b) ≡ found_of (operated 8 how (value (kind u) a) (value (kind u) b))
+added : {t top : ℕ} (u : Unsigned t top) (how a b : ℕ) → a + b ≤ top → Ok (found t (a + b)) ≡ found_of (operated 8 how (value (kind u) a) (value (kind u) b))
 unfolding operated arithmetic operate checked integer family tag size bits_of need kind
 added u8 how a b h = rw (lt-ltb (a + b) 256 (omega arith))
 added u16 how a b h = rw (lt-ltb (a + b) 65536 (omega arith))
 added u32 how a b h = rw (lt-ltb (a + b) 4294967296 (omega arith))
 added u64 how a b h = rw (lt-ltb (a + b) 18446744073709551616 (omega arith))
 
-taken : {t top : ℕ} (u : Unsigned t top) (how a b : ℕ) → a ≤ top → b ≤ a → found t (a - b) ≡ found_of (operated 9 how (value (kind u) a) (value (kind u) b))
+taken : {t top : ℕ} (u : Unsigned t top) (how a b : ℕ) → a ≤ top → b ≤ a → Ok (found t (a - b)) ≡ found_of (operated 9 how (value (kind u) a) (value (kind u) b))
 unfolding operated arithmetic operate checked integer family tag size bits_of need kind
 taken u8 how a b h k = rw (minus a b k, lt-ltb (a - b) 256 (omega arith))
 taken u16 how a b h k = rw (minus a b k, lt-ltb (a - b) 65536 (omega arith))
@@ -54,7 +56,7 @@ compared u16 test a b = refl
 compared u32 test a b = refl
 compared u64 test a b = refl
 
-shown : (b : Bool) → found (tag Kinds.bool) (pick b 1 0) ≡ found_of (ok (truth b))
+shown : (b : Bool) → Ok (found (tag Kinds.bool) (pick b 1 0)) ≡ found_of (ok (truth b))
 shown true = refl
 shown false = refl
 
@@ -100,39 +102,42 @@ module _ (a b : ℕ) where
 -- ---- two operands
 
 module _ (opcode how t top a b : ℕ) (p : Alike t top a b) where
-  both : operated opcode how (value (kind p.kind) a) (value (kind p.kind) b) ≡ binary_of opcode how (found t a) (found t b)
+  both : operated opcode how (value (kind p.kind) a) (value (kind p.kind) b) ≡ binary_of opcode how (Ok (found t a)) (Ok (found t b))
   unfolding binary_of with_second ◌>>=◌
   both = rw (whole p.kind a p.first, whole p.kind b p.second)
 
 module _ (t top a b : ℕ) (p : Alike t top a b) where
-  pub sums : (how : ℕ) → a + b ≤ top → found t (a + b) ≡ found_of (binary_of 8 how (found t a) (found t b))
+  pub sums : (how : ℕ) → a + b ≤ top → Ok (found t (a + b)) ≡ found_of (binary_of 8 how (Ok (found t a)) (Ok (found t b)))
   sums how h = added p.kind how a b h ∙ ap found_of (both 8 how t top a b p)
 
-  pub differences : (how : ℕ) → b ≤ a → found t (a - b) ≡ found_of (binary_of 9 how (found t a) (found t b))
+  pub differences : (how : ℕ) → b ≤ a → Ok (found t (a - b)) ≡ found_of (binary_of 9 how (Ok (found t a)) (Ok (found t b)))
   differences how h = taken p.kind how a b p.first h ∙ ap found_of (both 9 how t top a b p)
 
   module _ (how : ℕ) (test : Test) (named : (x y : Value) → operated 6 how x y ≡ unsigned_order test x y) where
-    ordered : (b' : Bool) → passes test (naturals a b) ≡ b' → found (tag Kinds.bool) (pick b' 1 0) ≡ found_of (binary_of 6 how (found t a) (found t b))
+    ordered : (b' : Bool) → passes test (naturals a b) ≡ b' → Ok (found (tag Kinds.bool) (pick b' 1 0)) ≡ found_of (binary_of 6 how (Ok (found t a)) (Ok (found t b)))
     ordered b' e =
         shown b' ∙ ap (λ (d : Bool). found_of (ok (truth d))) (sym e)
         ∙ ap found_of (sym (named (value (kind p.kind) a) (value (kind p.kind) b) ∙ compared p.kind test a b) ∙ both 6 how t top a b p)
 
-  pub ult : found (tag Kinds.bool) (pick (ltb a b) 1 0) ≡ found_of (binary_of 6 2 (found t a) (found t b))
+  pub ult : Ok (found (tag Kinds.bool) (pick (ltb a b) 1 0)) ≡ found_of (binary_of 6 2 (Ok (found t a)) (Ok (found t b)))
   unfolding operated compared_ints int_cmp_at compare_ints
   ult = ordered 2 lt (λ x y. refl) (ltb a b) (below a b)
 
-  pub ule : found (tag Kinds.bool) (pick (leb a b) 1 0) ≡ found_of (binary_of 6 3 (found t a) (found t b))
+  pub ule : Ok (found (tag Kinds.bool) (pick (leb a b) 1 0)) ≡ found_of (binary_of 6 3 (Ok (found t a)) (Ok (found t b)))
   unfolding operated compared_ints int_cmp_at compare_ints
   ule = ordered 3 le (λ x y. refl) (leb a b) (not-above a b)
 
-  pub ugt : found (tag Kinds.bool) (pick (ltb b a) 1 0) ≡ found_of (binary_of 6 4 (found t a) (found t b))
+  pub ugt : Ok (found (tag Kinds.bool) (pick (ltb b a) 1 0)) ≡ found_of (binary_of 6 4 (Ok (found t a)) (Ok (found t b)))
   unfolding operated compared_ints int_cmp_at compare_ints
   ugt = ordered 4 gt (λ x y. refl) (ltb b a) (above a b)
 
-  pub uge : found (tag Kinds.bool) (pick (leb b a) 1 0) ≡ found_of (binary_of 6 5 (found t a) (found t b))
+  pub uge : Ok (found (tag Kinds.bool) (pick (leb b a) 1 0)) ≡ found_of (binary_of 6 5 (Ok (found t a)) (Ok (found t b)))
   unfolding operated compared_ints int_cmp_at compare_ints
   uge = ordered 5 ge (λ x y. refl) (leb b a) (not-below a b)
 
+pub ruleset orders = (ult, ule, ugt, uge)
+
 -- two operands with one tag, whose bits were combined
-pub alike_found : (opcode how n : ℕ) (x y r : Found) → opcode ≡ n → x.tag ≡ y.tag → r ≡ found_of (binary_of n how (found x.tag x.bits) (found x.tag y.bits)) → r ≡ found_of (binary_of opcode how x y)
-alike_found opcode how n x y r e same h = rw e (h ∙ ap (λ (t : ℕ). found_of (binary_of n how x (found t y.bits))) same)
+pub alike_found : (opcode how n : ℕ) (x y : Found) (r : Result Found Refusal) → opcode ≡ n → x.tag ≡ y.tag → r ≡ found_of (binary_of n how (Ok (found x.tag x.bits)) (Ok (found x.tag y.bits)))
+    → r ≡ found_of (binary_of opcode how (Ok x) (Ok y))
+alike_found opcode how n x y r e same h = rw e (h ∙ ap (λ (t : ℕ). found_of (binary_of n how (Ok x) (Ok (found t y.bits)))) same)

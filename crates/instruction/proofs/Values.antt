@@ -1,4 +1,5 @@
 -- Variables and operands of the code are the believed machine's: a stored tag and bits are a value or unset, kind by kind.
+use Rattle.std.specs.Prelude.{Result, Ok, Err}
 use Prim.Native.Nat.{ℕ, ◌+◌, ◌*◌, ◌/◌, ◌<◌}
 use native.Mathlib.Omega.{arith}
 use mathlib.Core.Bool.{true}
@@ -8,6 +9,7 @@ use lib.ListN.{length, get_or, set, length-set}
 use lib.Seq.{get_or-set_same, get_or-set_other}
 use lib.Dec.{ltb, eqb}
 use borrow.Author.Tests.{lt-ltb, ne_eqb, eqb-true, eqb-false}
+use Rattle.value.specs.declared.refusal.Refusal.{Refusal}
 use Rattle.value.specs.Refusal.{never_set}
 use Rattle.value.specs.Answer.{Answer, ok, refused, need, pick}
 use Rattle.value.specs.Answer as Answer
@@ -33,14 +35,14 @@ use Rattle.instruction.proofs.Decoded.{as_read}
 
 pub found-answer : (a : Answer Value) → Keeps Good a → answer_of (found_of a) ≡ a
 unfolding answer_of need
-found-answer (ok v) (kept g) = rw (tag-some v.kind, kind_of_tag v.kind, is_true (holds v.kind v.bits) g)
+found-answer (ok v) (kept g) = rw (kind_of_tag v.kind, is_true (holds v.kind v.bits) g)
 found-answer (refused n) k = refl
 
 -- ---- variables
 
 -- a variable's tag and bits, found
-abbrev word_found : (tag bits : ℕ) → Found
-word_found t b = pick (eqb t 0) (found 0 never_set) (found t b)
+abbrev word_found : (tag bits : ℕ) → Result Found Refusal
+word_found t b = pick (eqb t 0) (Err never_set) (Ok (found t b))
 
 abbrev Stored : (tag bits : ℕ) → Type 0
 Stored t b = (word_found t b ≡ found_of (Answer.found never_set (stored_value t b))) × Keeps Good (Answer.found never_set (stored_value t b))

@@ -1,12 +1,11 @@
 -- What the short ways of the code are given.
-use Rattle.std.specs.Prelude.{ℕ, ◌+◌, ◌*◌, ◌%◌, ◌≤◌, ◌<◌, List, ◌≡◌, length, get_or}
+use Rattle.std.specs.Prelude.{ℕ, ◌+◌, ◌*◌, ◌%◌, ◌≤◌, ◌<◌, List, ◌≡◌, length, get_or, Option, Some, None}
 use Rattle.value.specs.Value.{size, tag}
 use Rattle.value.specs.Value as Kinds
 use Rattle.value.specs.Tags.{kind_at}
 use Rattle.value.specs.Ir.{value_of}
+use Rattle.value.specs.declared.IrValue.{IrValue}
 use Rattle.value.specs.Ir.{made as made_of}
-use Rattle.value.specs.declared.Made.{Made}
-use Rattle.value.specs.declared.Made.TheVariants as made
 
 -- the tag of an unsigned kind, and the greatest number of the kind
 pub data Unsigned : (tag top : ℕ) → Type 0 where
@@ -22,9 +21,9 @@ pub record Alike (tag top a b : ℕ) : Type 0 where
   pub second : b ≤ top
 
 -- nothing, or the value that a tag and bits are, which takes eight bytes
-abbrev pub Word : (tag bits : ℕ) → Made → Type 0
-Word tag bits made.Nothing = Unit {0}
-Word tag bits (made.Value v) = (made_of (kind_at tag) bits ≡ made.Value v) × (size (value_of v).kind ≡ 8)
+abbrev pub Word : (tag bits : ℕ) → Option IrValue → Type 0
+Word tag bits None = Unit {0}
+Word tag bits (Some v) = (made_of (kind_at tag) bits ≡ Some v) × (size (value_of v).kind ≡ 8)
 
 -- n pairs of numbers of one byte, from this place on
 pub record Pairs (s : List ℕ) (at n : ℕ) : Type 0 where

@@ -2,31 +2,25 @@
 ghost use Rattle.std.specs.Prelude.{◌≡◌};
 ghost use Rattle.instruction.specs.Decode.{field_at, operand_at};
 
-use image::number::{Number, read_number};
+use image::number::read_number;
 
 // A number and the place after it. Place 0 is no field's: refused, and so is what is read from there.
-#[derive(Clone, Copy)]
+#[derive(Clone, Copy, Debug, PartialEq, Eq)]
 pub struct Field {
     pub value: u64,
     pub next: usize,
 }
 
 // An operand's tag and its variable or bits, and the place after it.
-#[derive(Clone, Copy)]
+#[derive(Clone, Copy, Debug, PartialEq, Eq)]
 pub struct Operand {
     pub tag: u64,
     pub bits: u64,
     pub next: usize,
 }
 
-// A byte as a number.
-pub fn wide(x: u8) -> u64
-    ensures { result ≡ x }
-{
-    x as u64
-}
-
 // Most numbers are a byte below 128: these are read here, and the others group by group.
+#[tactic(auto, using(crate::proofs::Short::field_of_byte), unfolding(crate::specs::Decode::field_at))]
 pub fn read_field(image: &[u8], at: usize) -> Field
     ensures { result ≡ field_at image.now at }
 {
@@ -34,7 +28,7 @@ pub fn read_field(image: &[u8], at: usize) -> Field
         return Field { value: 0, next: 0 };
     }
     if at < image.len() {
-        let byte = wide(image[at]);
+        let byte = image[at] as u64;
         if byte < 128 {
             return Field {
                 value: byte,
@@ -43,11 +37,12 @@ pub fn read_field(image: &[u8], at: usize) -> Field
         }
     }
     match read_number(image, at) {
-        Number::Value(value, next) => Field { value, next },
-        Number::Bad(_, _) => Field { value: 0, next: 0 },
+        Ok((value, next)) => Field { value, next },
+        Err(_) => Field { value: 0, next: 0 },
     }
 }
 
+#[tactic(auto, unfolding(crate::specs::Decode::operand_at))]
 pub fn read_operand(image: &[u8], at: usize) -> Operand
     ensures { result ≡ operand_at image.now at }
 {

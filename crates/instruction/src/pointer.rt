@@ -1,69 +1,52 @@
 // The instructions that hand out a pointer: ConstantAddress and Offset.
-ghost use Rattle.std.specs.Prelude.{◌≡◌};
+ghost use Rattle.std.specs.Prelude.{◌≡◌, Ok};
 ghost use Rattle.memory.specs.Tables.{both};
-ghost use Rattle.instruction.specs.Compute.{found_of};
-ghost use Rattle.instruction.specs.Storage.{as_pointer_of, pointed, pointed_of, addressed_of, offsetted_of};
+ghost use Rattle.instruction.specs.Storage.{as_pointer_of, number_in, pointed, pointed_of, addressed_of, offsetted_of};
 
 use crate::field::{read_field, read_operand};
 use crate::step::{Progress, finish};
 use crate::variables::{Found, evaluate};
-use memory::{Given, Registers, constant_address, offset_by};
-use value::refusal::{NOT_SOUND, WRONG_KINDS};
-use value::{IrType, IrValue, Made};
+use memory::{Registers, constant_address, offset_by};
+use value::refusal::Refusal;
+use value::{IrType, IrValue};
 
 // A value where a pointer is asked for.
-pub fn as_pointer(v: Found) -> Found
-    ensures { result ≡ found_of (as_pointer_of v) }
+#[tactic(auto, using(crate::proofs::Handed::asked))]
+pub fn as_pointer(v: Found) -> Result<u64, Refusal>
+    ensures { result ≡ number_in (as_pointer_of (Ok v)) }
 {
-    if v.tag == 0 {
-        return v;
-    }
-    match IrValue::from_bits(v.tag, v.bits) {
-        Made::Value(value) => {
-            let IrValue::Pointer(p) = value else {
-                return Found {
-                    tag: 0,
-                    bits: WRONG_KINDS,
-                };
-            };
-            Found {
-                tag: IrType::POINTER_TAG,
-                bits: p,
-            }
-        }
-        Made::Nothing => Found {
-            tag: 0,
-            bits: NOT_SOUND,
-        },
-    }
+    let IrValue::Pointer(p) = IrValue::try_from(v)? else {
+        return Err(Refusal::WrongKinds);
+    };
+    Ok(p)
 }
 
 // The pointer that was given out goes to a variable.
-pub fn point(given: Given, vars: &mut [u64], to: u64) -> Progress
+#[tactic(auto, unfolding(crate::specs::Code::finished_of, value::specs::Value::tag))]
+pub fn point(
+    given: Result<(usize, Registers), Refusal>,
+    vars: &mut [u64],
+    to: u64,
+) -> Result<Progress, Refusal>
     ensures { both result vars.new ≡ pointed_of given vars.old to }
 {
-    match given {
-        Given::Made(p, m) => finish(
-            m,
-            vars,
-            to,
-            Found {
-                tag: IrType::POINTER_TAG,
-                bits: p as u64,
-            },
-        ),
-        Given::Refused(n) => Progress::Refused(n),
-    }
+    let (p, m) = given?;
+    let pointer = Found {
+        tag: IrType::POINTER_TAG,
+        bits: p as u64,
+    };
+    finish(m, vars, to, Ok(pointer))
 }
 
 // ConstantAddress: to, constant.
+#[tactic(auto, unfolding(crate::specs::Storage::addressed_of))]
 pub fn address(
     m: Registers,
     image: &[u8],
     at: usize,
     pointers: &mut [u64],
     vars: &mut [u64],
-) -> Progress
+) -> Result<Progress, Refusal>
     ensures { pointed result pointers.new vars.new ≡ addressed_of m image.now pointers.old vars.old at }
 {
     let to = read_field(image, at);
@@ -73,22 +56,20 @@ pub fn address(
 }
 
 // Offset: to, operand, u32.
+#[tactic(auto, using(crate::proofs::Handed::asked), unfolding(crate::specs::Storage::offsetted_of))]
 pub fn offset(
     m: Registers,
     image: &[u8],
     at: usize,
     pointers: &mut [u64],
     vars: &mut [u64],
-) -> Progress
+) -> Result<Progress, Refusal>
     ensures { pointed result pointers.new vars.new ≡ offsetted_of m image.now pointers.old vars.old at }
 {
     let to = read_field(image, at);
     let from = read_operand(image, to.next);
     let by = read_field(image, from.next);
-    let p = as_pointer(evaluate(vars, from));
-    if p.tag == 0 {
-        return Progress::Refused(p.bits);
-    }
-    let given = offset_by(m, p.bits as usize, by.value, pointers);
+    let p = as_pointer(evaluate(vars, from)?)?;
+    let given = offset_by(m, p as usize, by.value, pointers);
     point(given, vars, to.value)
 }

@@ -1,6 +1,6 @@
 // One instruction: its fields are read again at its place, and its parts done in order. The registers that an instruction
 // is given have the next place already; a refusal leaves every table as it stood.
-ghost use Rattle.std.specs.Prelude.{◌≡◌, ℕ, ◌+◌, ◌%◌, ◌≤◌, ◌<◌, length, get_or};
+ghost use Rattle.std.specs.Prelude.{◌≡◌, ℕ, ◌+◌, ◌%◌, ◌≤◌, ◌<◌, length, get_or, Some};
 ghost use Rattle.memory.specs.Tables.{both};
 ghost use Rattle.instruction.specs.Decode.{field_at};
 ghost use Rattle.instruction.specs.Short.{First};
@@ -11,36 +11,39 @@ use crate::field::{Field, read_field, read_operand};
 use crate::variables::{Found, evaluate, set_variable};
 use memory::Registers;
 use value::IrType;
-use value::refusal::{NO_INSTRUCTION, WRONG_KINDS};
+use value::refusal::Refusal;
 
-// The registers after a step; or after the last Return, with its value, tag 0 for none.
-#[derive(Clone, Copy)]
+// The registers after a step; or after the last Return, with its value, if it has one.
+#[derive(Clone, Copy, Debug, PartialEq, Eq)]
 pub enum Progress {
     Next(Registers),
-    Ended(Registers, Found),
-    Refused(u64),
+    Ended(Registers, Option<Found>),
 }
 
 // What a look over the bytes of many branches finds.
-#[derive(Clone, Copy)]
+#[derive(Clone, Copy, Debug, PartialEq, Eq)]
 struct Seen {
     greatest: u8,
     first: u8,
 }
 
 // A result goes to a variable, or is refused.
-pub fn finish(m: Registers, vars: &mut [u64], to: u64, r: Found) -> Progress
+#[tactic(auto, unfolding(crate::specs::Code::finished_of))]
+pub fn finish(
+    m: Registers,
+    vars: &mut [u64],
+    to: u64,
+    r: Result<Found, Refusal>,
+) -> Result<Progress, Refusal>
     ensures { both result vars.new ≡ finished_of m vars.old to r }
 {
-    if r.tag == 0 {
-        return Progress::Refused(r.bits);
-    }
-    set_variable(vars, to as usize, r);
-    Progress::Next(m)
+    set_variable(vars, to as usize, r?);
+    Ok(Progress::Next(m))
 }
 
 // Assign: to, operand, type; the declared kind is ignored.
-pub fn assign(m: Registers, image: &[u8], at: usize, vars: &mut [u64]) -> Progress
+#[tactic(auto, unfolding(crate::specs::Code::assigned_of))]
+pub fn assign(m: Registers, image: &[u8], at: usize, vars: &mut [u64]) -> Result<Progress, Refusal>
     ensures { both result vars.new ≡ assigned_of m image.now vars.old at }
 {
     let to = read_field(image, at);
@@ -50,57 +53,36 @@ pub fn assign(m: Registers, image: &[u8], at: usize, vars: &mut [u64]) -> Progre
 }
 
 // On to a label's place.
-pub fn go(m: Registers, labels: &[usize], label: Field) -> Progress
+#[tactic(auto, unfolding(crate::specs::Code::went_of))]
+pub fn go(m: Registers, labels: &[usize], label: Field) -> Result<Progress, Refusal>
     ensures { result ≡ went_of m labels.now label }
 {
     if label.next == 0 {
-        return Progress::Refused(NO_INSTRUCTION);
+        return Err(Refusal::NoInstruction);
     }
-    let k = label.value as usize;
-    if k < labels.len() {
-        let mut n = m;
-        n.next = labels[k];
-        return Progress::Next(n);
-    }
-    Progress::Refused(NO_INSTRUCTION)
+    let Some(place) = labels.get(label.value as usize) else {
+        return Err(Refusal::NoInstruction);
+    };
+    Ok(Progress::Next(Registers { next: *place, ..m }))
 }
 
 // Jump: label.
-pub fn jump(m: Registers, image: &[u8], at: usize, labels: &[usize]) -> Progress
+#[tactic(auto, unfolding(crate::specs::Code::jumped_of))]
+pub fn jump(m: Registers, image: &[u8], at: usize, labels: &[usize]) -> Result<Progress, Refusal>
     ensures { result ≡ jumped_of m image.now labels.now at }
 {
     go(m, labels, read_field(image, at))
 }
 
 // What Switch takes: Bool, U8, U16, U32.
-pub fn key(v: Found) -> Found
+#[tactic(auto, unfolding(crate::specs::Code::key_of, value::specs::Value::tag))]
+pub fn key(v: Found) -> Result<u64, Refusal>
     ensures { result ≡ key_of v }
 {
     if IrType::U32_TAG < v.tag {
-        return Found {
-            tag: 0,
-            bits: WRONG_KINDS,
-        };
+        return Err(Refusal::WrongKinds);
     }
-    v
-}
-
-fn larger(a: u8, b: u8) -> u8
-    ensures { (a ≤ result) × (b ≤ result) }
-{
-    if a < b {
-        return b;
-    }
-    a
-}
-
-fn lesser(a: u8, b: u8) -> u8
-    ensures { (result ≤ a) × (result ≤ b) × ((result ≡ a → ⊥) → result ≡ b) }
-{
-    if b < a {
-        return b;
-    }
-    a
+    Ok(v.bits)
 }
 
 // Place k, if it is even and its byte is the number; else 255.
@@ -123,122 +105,120 @@ fn look(image: &[u8], start: usize, size: usize, number: u8) -> Seen
 {
     let mut greatest = 0u8;
     let mut first = 255u8;
-    let mut k = 0;
-    while k < size {
+    for k in 0..size {
         let byte = image[start + k];
-        greatest = larger(greatest, byte);
-        first = lesser(first, chosen(byte, number, k as u8));
-        k += 1;
+        greatest = greatest.max(byte);
+        first = first.min(chosen(byte, number, k as u8));
     }
     Seen { greatest, first }
 }
 
 // Where the label of the first branch with this number stands, or the default, if the branches are many, and each a number and a
-// label of one byte; else 0.
-fn label_place(image: &[u8], start: usize, count: u64, bits: u64) -> usize
-    ensures { (result ≡ 0 → ⊥) → field_at image.now result ≡ branch_of image.now count bits start }
+// label of one byte; else none.
+#[tactic(auto, using(crate::proofs::Short::pairs))]
+fn label_place(image: &[u8], start: usize, count: u64, bits: u64) -> Option<usize>
+    ensures { (place : ℕ) → result ≡ Some place → field_at image.now place ≡ branch_of image.now count bits start }
 {
-    if start == 0 {
-        return 0;
+    if start == 0 || count < 8 || 64 < count || 127 < bits {
+        return None;
     }
-    if count < 8 {
-        return 0;
-    }
-    if 64 < count {
-        return 0;
-    }
-    if 127 < bits {
-        return 0;
-    }
-    if image.len() < start {
-        return 0;
-    }
-    if (((image.len() - start) / 2) as u64) < count {
-        return 0;
+    if image.len() < start || (((image.len() - start) / 2) as u64) < count {
+        return None;
     }
     let size = count as usize * 2;
     let seen = look(image, start, size, bits as u8);
     if 127 < seen.greatest {
-        return 0;
+        return None;
     }
     if seen.first == 255 {
-        return start + size;
+        return Some(start + size);
     }
-    start + seen.first as usize + 1
+    Some(start + seen.first as usize + 1)
 }
 
 // The label of the first of `count` branches with this number, or the default.
+#[tactic(auto, using(crate::proofs::Laws::branches))]
 pub fn branch(image: &[u8], start: usize, count: u64, bits: u64) -> Field
     ensures { result ≡ branch_of image.now count bits start }
 {
-    let place = label_place(image, start, count, bits);
-    if place != 0 {
+    if let Some(place) = label_place(image, start, count, bits) {
         return read_field(image, place);
     }
     let mut at = start;
-    let mut left = count;
-    while 0 < left {
+    for _ in 0..count {
         let number = read_field(image, at);
         let label = read_field(image, number.next);
         if number.value == bits {
             return label;
         }
         at = label.next;
-        left -= 1;
     }
     read_field(image, at)
 }
 
 // Switch: operand, count, pairs of number and label, default label.
-pub fn switch(m: Registers, image: &[u8], at: usize, labels: &[usize], vars: &[u64]) -> Progress
+#[tactic(auto, unfolding(crate::specs::Code::switched_of))]
+pub fn switch(
+    m: Registers,
+    image: &[u8],
+    at: usize,
+    labels: &[usize],
+    vars: &[u64],
+) -> Result<Progress, Refusal>
     ensures { result ≡ switched_of m image.now labels.now vars.now at }
 {
     let examinee = read_operand(image, at);
     let count = read_field(image, examinee.next);
-    let v = key(evaluate(vars, examinee));
-    if v.tag == 0 {
-        return Progress::Refused(v.bits);
-    }
-    go(m, labels, branch(image, count.next, count.value, v.bits))
+    let bits = key(evaluate(vars, examinee)?)?;
+    go(m, labels, branch(image, count.next, count.value, bits))
 }
 
 // The field between `to` and the operands of opcodes 6 to 13: a comparison's number, or a signed flag, where there is one.
+#[tactic(auto, unfolding(crate::specs::Code::middle_of))]
 pub fn middle(opcode: u64, image: &[u8], at: usize) -> Field
     ensures { result ≡ middle_of opcode image.now at }
 {
-    if opcode < 8 {
-        return read_field(image, at);
+    match opcode {
+        ..8 | 11..=12 => read_field(image, at),
+        _ => Field { value: 0, next: at },
     }
-    if opcode == 11 {
-        return read_field(image, at);
-    }
-    if opcode == 12 {
-        return read_field(image, at);
-    }
-    Field { value: 0, next: at }
 }
 
 // Opcodes 6 to 13: to, two operands; the signed flag of Div and Mod is ignored.
-pub fn combine(m: Registers, opcode: u64, image: &[u8], at: usize, vars: &mut [u64]) -> Progress
+#[tactic(auto, using(crate::proofs::Computed::first), unfolding(crate::specs::Code::combined_of, crate::specs::Code::finished_of))]
+pub fn combine(
+    m: Registers,
+    opcode: u64,
+    image: &[u8],
+    at: usize,
+    vars: &mut [u64],
+) -> Result<Progress, Refusal>
     ensures { both result vars.new ≡ combined_of m opcode image.now vars.old at }
 {
     let to = read_field(image, at);
     let how = middle(opcode, image, to.next);
     let left = read_operand(image, how.next);
     let right = read_operand(image, left.next);
-    let x = evaluate(vars, left);
+    let x = evaluate(vars, left)?;
     let y = evaluate(vars, right);
     let r = binary(opcode, how.value, x, y);
     finish(m, vars, to.value, r)
 }
 
 // Opcodes 14 and 15: to, operand.
-pub fn change(m: Registers, opcode: u64, image: &[u8], at: usize, vars: &mut [u64]) -> Progress
+#[tactic(auto, using(crate::proofs::Computed::alone), unfolding(crate::specs::Code::changed_of, crate::specs::Code::finished_of))]
+pub fn change(
+    m: Registers,
+    opcode: u64,
+    image: &[u8],
+    at: usize,
+    vars: &mut [u64],
+) -> Result<Progress, Refusal>
     ensures { both result vars.new ≡ changed_of m opcode image.now vars.old at }
 {
     let to = read_field(image, at);
     let from = read_operand(image, to.next);
-    let x = evaluate(vars, from);
+    let x = evaluate(vars, from)?;
     let r = unary(opcode, x);
     finish(m, vars, to.value, r)
 }

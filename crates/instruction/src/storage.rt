@@ -1,5 +1,5 @@
 // The instructions that reach through pointers: Initialize, Write, Read and Copy.
-ghost use Rattle.std.specs.Prelude.{◌≡◌};
+ghost use Rattle.std.specs.Prelude.{◌≡◌, Ok};
 ghost use Rattle.memory.specs.Tables.{tables, both, out, written_of};
 ghost use Rattle.instruction.specs.Compute.{found_of};
 ghost use Rattle.value.specs.Value.{size, bytes_of};
@@ -7,43 +7,33 @@ ghost use Rattle.value.specs.Ir.{type_of, value_of};
 ghost use Rattle.value.specs.Ir.{loaded as Ir·loaded};
 ghost use Rattle.instruction.specs.Short.{Word};
 ghost use Rattle.instruction.specs.Code.{stepped};
-ghost use Rattle.instruction.specs.Storage.{progress_of, stored_of, write_of, loaded_as, read_as, reading_of, made_of, initialized_of, copying_of};
+ghost use Rattle.instruction.specs.Storage.{stored_of, write_of, loaded_as, read_as, reading_of, made_of, initialized_of, copying_of};
 
+use crate::compute::found;
 use crate::field::{read_field, read_operand};
 use crate::pointer::{as_pointer, point};
 use crate::step::{Progress, finish};
 use crate::variables::{Found, evaluate};
 use copying::copy_bytes;
-use memory::{
-    Given, Outcome, Place, Registers, Source, allocate, constant_access, read_access, write_bytes,
-};
-use value::refusal::{BEYOND_LENGTH, BYTES_EXCEED_SIZE, NO_INSTRUCTION, NOT_SOUND};
-use value::{Double, IrType, IrValue, Loaded, Made, Tagged};
-
-// On to the next place, where the memory did what was asked.
-pub fn progress(m: Registers, r: Outcome) -> Progress
-    ensures { result ≡ progress_of m r }
-{
-    match r {
-        Outcome::Done => Progress::Next(m),
-        Outcome::Refused(n) => Progress::Refused(n),
-    }
-}
+use memory::{Registers, Source, allocate, constant_access, read_access, write_bytes};
+use value::refusal::Refusal;
+use value::{Double, IrType, IrValue};
 
 // The value of a tag and bits, where it is one of eight bytes: made by its own case, without a search for its kind.
-fn word(tag: u64, bits: u64) -> Made
+fn word(tag: u64, bits: u64) -> Option<IrValue>
     ensures { Word tag bits result }
 {
     match tag {
-        IrType::U64_TAG => Made::Value(IrValue::U64(bits)),
+        IrType::U64_TAG => Some(IrValue::U64(bits)),
         IrType::I64_TAG => IrValue::from_bits(IrType::I64_TAG, bits),
-        IrType::F64_TAG => Made::Value(IrValue::F64(Double::from_bits(bits))),
-        IrType::POINTER_TAG => Made::Value(IrValue::Pointer(bits)),
-        _ => Made::Nothing,
+        IrType::F64_TAG => Some(IrValue::F64(Double::from_bits(bits))),
+        IrType::POINTER_TAG => Some(IrValue::Pointer(bits)),
+        _ => None,
     }
 }
 
 // The bytes of a value that takes eight are written through pointer p.
+#[tactic(auto, using(crate::proofs::Through::bytes_alone), unfolding(memory::specs::Tables::written_of))]
 fn write_word(
     m: Registers,
     p: usize,
@@ -52,7 +42,7 @@ fn write_word(
     frames: &[u64],
     bounds: &[u64],
     pointers: &[u64],
-) -> Outcome
+) -> Result<(), Refusal>
     requires { size (value_of value).kind ≡ 8 }
     ensures { both result store.new ≡ written_of (tables m store.old frames.now bounds.now pointers.now) p (bytes_of (value_of value)) }
 {
@@ -62,6 +52,7 @@ fn write_word(
 }
 
 // The value's bytes are written through pointer p.
+#[tactic(auto, using(crate::proofs::Through::stores))]
 pub fn write_value(
     m: Registers,
     p: usize,
@@ -70,27 +61,21 @@ pub fn write_value(
     frames: &[u64],
     bounds: &[u64],
     pointers: &[u64],
-) -> Outcome
-    ensures { both result store.new ≡ stored_of (tables m store.old frames.now bounds.now pointers.now) p v }
+) -> Result<(), Refusal>
+    ensures { both result store.new ≡ stored_of (tables m store.old frames.now bounds.now pointers.now) p (Ok v) }
 {
-    if v.tag == 0 {
-        return Outcome::Refused(v.bits);
-    }
-    if let Made::Value(value) = word(v.tag, v.bits) {
+    if let Some(value) = word(v.tag, v.bits) {
         return write_word(m, p, value, store, frames, bounds, pointers);
     }
-    match IrValue::from_bits(v.tag, v.bits) {
-        Made::Value(value) => {
-            let mut bytes = [0u8; 8];
-            value.write(&mut bytes);
-            let size = value.size();
-            write_bytes(m, p, &bytes[0..size], store, frames, bounds, pointers)
-        }
-        Made::Nothing => Outcome::Refused(NOT_SOUND),
-    }
+    let value = IrValue::try_from(v)?;
+    let mut bytes = [0u8; 8];
+    value.write(&mut bytes);
+    let size = value.size();
+    write_bytes(m, p, &bytes[0..size], store, frames, bounds, pointers)
 }
 
 // Write: two operands, where and what. The first is tested before the second is evaluated.
+#[tactic(auto, using(crate::proofs::Handed::asked, crate::proofs::Through::not_stored), unfolding(crate::specs::Storage::write_of))]
 pub fn write(
     m: Registers,
     image: &[u8],
@@ -100,39 +85,26 @@ pub fn write(
     bounds: &[u64],
     pointers: &[u64],
     vars: &[u64],
-) -> Progress
+) -> Result<Progress, Refusal>
     ensures { both result store.new ≡ write_of (tables m store.old frames.now bounds.now pointers.now) image.now vars.now at }
 {
     let to = read_operand(image, at);
     let what = read_operand(image, to.next);
-    let p = as_pointer(evaluate(vars, to));
-    if p.tag == 0 {
-        return Progress::Refused(p.bits);
-    }
-    let v = evaluate(vars, what);
-    let r = write_value(m, p.bits as usize, v, store, frames, bounds, pointers);
-    progress(m, r)
+    let p = as_pointer(evaluate(vars, to)?)?;
+    let v = evaluate(vars, what)?;
+    write_value(m, p as usize, v, store, frames, bounds, pointers)?;
+    Ok(Progress::Next(m))
 }
 
 // What bytes are, as a tag and bits.
-pub fn loaded(r: Loaded) -> Found
+pub fn loaded(r: Option<Result<IrValue, Refusal>>) -> Result<Found, Refusal>
     ensures { result ≡ loaded_as r }
 {
-    match r {
-        Loaded::Value(v) => Found {
-            tag: v.tag(),
-            bits: v.bits(),
-        },
-        Loaded::Refused(n) => Found { tag: 0, bits: n },
-        Loaded::Short => Found {
-            tag: 0,
-            bits: BEYOND_LENGTH,
-        },
-    }
+    found(r.ok_or(Refusal::BeyondLength)?)
 }
 
 // The value of the type at the front of `from`. A type of eight bytes is named, so that its read is compiled for it alone.
-fn value_in(ty: IrType, from: &[u8]) -> Found
+fn value_in(ty: IrType, from: &[u8]) -> Result<Found, Refusal>
     ensures { result ≡ loaded_as (Ir·loaded (type_of ty) from.now) }
 {
     match ty {
@@ -145,6 +117,7 @@ fn value_in(ty: IrType, from: &[u8]) -> Found
 }
 
 // A value of the type, through pointer p.
+#[tactic(auto, using(memory::proofs::Laws::fits, crate::proofs::Through::reads))]
 pub fn read_typed(
     m: Registers,
     p: usize,
@@ -155,27 +128,25 @@ pub fn read_typed(
     pointers: &[u64],
     image: &[u8],
     extents: &[u64],
-) -> Found
+) -> Result<Found, Refusal>
     ensures { result ≡ found_of (read_as (tables m store.now frames.now bounds.now pointers.now) p (type_of ty) image.now extents.now) }
 {
     let size = ty.size();
-    match read_access(m, p, size, store, frames, bounds, pointers) {
+    match read_access(m, p, size, store, frames, bounds, pointers)? {
         Source::Local(at) => {
             let end = at + size;
             value_in(ty, &store[at..end])
         }
-        Source::Constant(k) => match constant_access(k, size as u64, image, extents) {
-            Place::At(at) => {
-                let end = at + size;
-                loaded(IrValue::read(ty, &image[at..end]))
-            }
-            Place::Refused(n) => Found { tag: 0, bits: n },
-        },
-        Source::Refused(n) => Found { tag: 0, bits: n },
+        Source::Constant(k) => {
+            let at = constant_access(k, size as u64, image, extents)?;
+            let end = at + size;
+            loaded(IrValue::read(ty, &image[at..end]))
+        }
     }
 }
 
 // Read: to, operand, type.
+#[tactic(auto, using(crate::proofs::Handed::asked, crate::proofs::Through::typed), unfolding(crate::specs::Storage::reading_of, crate::specs::Code::finished_of))]
 pub fn read(
     m: Registers,
     image: &[u8],
@@ -186,34 +157,24 @@ pub fn read(
     bounds: &[u64],
     pointers: &[u64],
     vars: &mut [u64],
-) -> Progress
+) -> Result<Progress, Refusal>
     ensures { both result vars.new ≡ reading_of (tables m store.now frames.now bounds.now pointers.now) image.now extents.now vars.old at }
 {
     let to = read_field(image, at);
     let from = read_operand(image, to.next);
     let tag = read_field(image, from.next);
-    let p = as_pointer(evaluate(vars, from));
-    if p.tag == 0 {
-        return Progress::Refused(p.bits);
-    }
-    let Tagged::Type(ty) = IrType::from_tag(tag.value) else {
-        return Progress::Refused(NO_INSTRUCTION);
+    let p = as_pointer(evaluate(vars, from)?)?;
+    let Some(ty) = IrType::from_tag(tag.value) else {
+        return Err(Refusal::NoInstruction);
     };
     let v = read_typed(
-        m,
-        p.bits as usize,
-        ty,
-        store,
-        frames,
-        bounds,
-        pointers,
-        image,
-        extents,
+        m, p as usize, ty, store, frames, bounds, pointers, image, extents,
     );
     finish(m, vars, to.value, v)
 }
 
 // `size` bytes more, with these at their start, and a pointer to them.
+#[tactic(auto, unfolding(crate::specs::Storage::made_of))]
 pub fn make(
     m: Registers,
     size: usize,
@@ -222,19 +183,16 @@ pub fn make(
     frames: &mut [u64],
     bounds: &mut [u64],
     pointers: &mut [u64],
-) -> Given
+) -> Result<(usize, Registers), Refusal>
     ensures { out result store.new frames.new bounds.new pointers.new ≡ made_of (tables m store.old frames.old bounds.old pointers.old) size bytes.now }
 {
-    match allocate(m, size, store, frames, bounds, pointers) {
-        Given::Made(p, n) => match write_bytes(n, p, bytes, store, frames, bounds, pointers) {
-            Outcome::Done => Given::Made(p, n),
-            Outcome::Refused(number) => Given::Refused(number),
-        },
-        Given::Refused(number) => Given::Refused(number),
-    }
+    let (p, n) = allocate(m, size, store, frames, bounds, pointers)?;
+    write_bytes(n, p, bytes, store, frames, bounds, pointers)?;
+    Ok((p, n))
 }
 
 // Initialize: to, size, count, raw bytes.
+#[tactic(auto, unfolding(crate::specs::Storage::initialized_of))]
 pub fn initialize(
     m: Registers,
     image: &[u8],
@@ -244,27 +202,25 @@ pub fn initialize(
     bounds: &mut [u64],
     pointers: &mut [u64],
     vars: &mut [u64],
-) -> Progress
+) -> Result<Progress, Refusal>
     ensures { stepped result store.new frames.new bounds.new pointers.new vars.new ≡ initialized_of (tables m store.old frames.old bounds.old pointers.old) image.now vars.old at }
 {
     let to = read_field(image, at);
     let size = read_field(image, to.next);
     let count = read_field(image, size.next);
-    let start = count.next;
     if size.value < count.value {
-        return Progress::Refused(BYTES_EXCEED_SIZE);
+        return Err(Refusal::BytesExceedSize);
     }
-    if image.len() < start {
-        return Progress::Refused(NO_INSTRUCTION);
-    }
-    if ((image.len() - start) as u64) < count.value {
-        return Progress::Refused(NO_INSTRUCTION);
-    }
-    let end = start + count.value as usize;
+    let Some(rest) = image.get(count.next..) else {
+        return Err(Refusal::NoInstruction);
+    };
+    let Some(bytes) = rest.get(..count.value as usize) else {
+        return Err(Refusal::NoInstruction);
+    };
     let given = make(
         m,
         size.value as usize,
-        &image[start..end],
+        bytes,
         store,
         frames,
         bounds,
@@ -274,6 +230,7 @@ pub fn initialize(
 }
 
 // Copy: operands to and from, u32. Both are pointers before either is followed.
+#[tactic(auto, using(crate::proofs::Handed::asked), unfolding(crate::specs::Storage::copying_of))]
 pub fn copy(
     m: Registers,
     image: &[u8],
@@ -284,24 +241,18 @@ pub fn copy(
     bounds: &[u64],
     pointers: &[u64],
     vars: &[u64],
-) -> Progress
+) -> Result<Progress, Refusal>
     ensures { both result store.new ≡ copying_of (tables m store.old frames.now bounds.now pointers.now) image.now extents.now vars.now at }
 {
     let to = read_operand(image, at);
     let from = read_operand(image, to.next);
     let count = read_field(image, from.next);
-    let p = as_pointer(evaluate(vars, to));
-    if p.tag == 0 {
-        return Progress::Refused(p.bits);
-    }
-    let q = as_pointer(evaluate(vars, from));
-    if q.tag == 0 {
-        return Progress::Refused(q.bits);
-    }
-    let r = copy_bytes(
+    let p = as_pointer(evaluate(vars, to)?)?;
+    let q = as_pointer(evaluate(vars, from)?)?;
+    copy_bytes(
         m,
-        p.bits as usize,
-        q.bits as usize,
+        p as usize,
+        q as usize,
         count.value as usize,
         store,
         frames,
@@ -309,6 +260,6 @@ pub fn copy(
         pointers,
         image,
         extents,
-    );
-    progress(m, r)
+    )?;
+    Ok(Progress::Next(m))
 }

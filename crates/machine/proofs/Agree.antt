@@ -9,9 +9,12 @@ use mathlib.Core.Path.{◌≡◌, refl, sym, ap, ap₂, ◌∙◌, subst, subst�
 use mathlib.Core.List.{List, [], ◌∷◌, ◌++◌, map, map-append}
 use mathlib.Core.Logic.{◌≢◌, inl, inr}
 use lib.ListN.{length, get_or, take, drop, set, replicate, length-set, length-map, length-append, length-drop, get_or-map, get_or-append}
-use lib.Seq.{get_or-set_same, get_or-set_other, map-set_same, get_or-append_seam, get_or-append-add, get_or-take, get_or-drop, ext_get_or, length-take-le}
+use lib.Seq.{get_or-set_same, get_or-set_other, map-set_same, get_or-append_seam, get_or-append-add, get_or-take, get_or-drop, ext_get_or, length-take-le, map-set}
 use lib.Dec.{T, ltb, leb, eqb, eqb_refl, eqb→eq, ltb→lt, leb→le, lt→ltb}
 use mir.Facts.{and_yes, yes_and, or_yes}
+use Rattle.std.proofs.lemmas.List.{take-map, length_push}
+use Rattle.std.proofs.lemmas.Bool.{false≢true}
+use Rattle.value.specs.declared.refusal.Refusal.{Refusal}
 use Rattle.value.specs.Refusal.{beyond_length, frame_gone, misaligned, no_allocation, not_given_out}
 use Rattle.value.specs.Answer.{Answer, ok, refused, need}
 use Rattle.memory.specs.Memory.{Memory, Back, Frame, Pointer, constant, local, divides, fresh, no_frame, frame_at, pointer_at, stands, bytes_at, access, overwrite, with_frames, with_allocations, with_pointer, allocated, pushed, popped, write_at, write_bytes, read_at, read_bytes, no_back}
@@ -19,26 +22,26 @@ use Rattle.machine.specs.History.{allocation, call, Made, Target, of_constant, o
 
 -- ---- answers
 
-pub refused≢ok : {A : Type 0} {n : ℕ} {x : A} → refused n ≡ ok x → ⊥
-refused≢ok e = let z : ◌≡◌ {A = ℕ} 0 1 = cc in omega arith
+pub refused≢ok : {A : Type 0} {n : Refusal} {x : A} → refused n ≡ ok x → ⊥
+refused≢ok e = false≢true cc
 
-pub need-ok : {A : Type 0} (b : Bool) (n : ℕ) (a : Answer A) {x : A} → need b n a ≡ ok x → T b × (a ≡ ok x)
+pub need-ok : {A : Type 0} (b : Bool) (n : Refusal) (a : Answer A) {x : A} → need b n a ≡ ok x → T b × (a ≡ ok x)
 unfolding need
 need-ok true n a e = (tt, e)
 need-ok false n a e = absurd (refused≢ok e)
 
-pub need_yes : {A : Type 0} (b : Bool) (n : ℕ) (a : Answer A) → T b → need b n a ≡ a
+pub need_yes : {A : Type 0} (b : Bool) (n : Refusal) (a : Answer A) → T b → need b n a ≡ a
 unfolding need
 need_yes true n a t = refl
 need_yes false n a t = absurd t
 
 -- two chains whose tests agree, and whose rests agree where the test holds
-pub need_then : {A : Type 0} (c : Bool) (n : ℕ) (a d : Answer A) → (T c → a ≡ d) → need c n a ≡ need c n d
+pub need_then : {A : Type 0} (c : Bool) (n : Refusal) (a d : Answer A) → (T c → a ≡ d) → need c n a ≡ need c n d
 unfolding need
 need_then true n a d f = f tt
 need_then false n a d f = refl
 
-pub need-same : {A : Type 0} (b c : Bool) (n : ℕ) (a d : Answer A) → b ≡ c → (T c → a ≡ d) → need b n a ≡ need c n d
+pub need-same : {A : Type 0} (b c : Bool) (n : Refusal) (a d : Answer A) → b ≡ c → (T c → a ≡ d) → need b n a ≡ need c n d
 need-same b c n a d e f = rw e (need_then c n a d f)
 
 pub bool_iff : (a b : Bool) → (T a → T b) → (T b → T a) → a ≡ b
@@ -49,9 +52,6 @@ bool_iff false false f g = refl
 
 -- ---- lists
 
-pub length_snoc : {A : Type 0} (l : List A) (x : A) → length (l ++ (x ∷ [])) ≡ length l + 1
-length_snoc l x = length-append l (x ∷ [])
-
 -- what holds of each of l and of x holds of each of `l ++ (x ∷ [])`
 pub each_snoc : {A : Type 0} (P : A → Type 0) (l : List A) (x d : A) → ((i : ℕ) → i < length l → P (get_or l i d)) → P x
     → (i : ℕ) → i < length (l ++ (x ∷ [])) → P (get_or (l ++ (x ∷ [])) i d)
@@ -59,16 +59,6 @@ each_snoc P [] x d f px zero h = px
 each_snoc P [] x d f px (suc i) h = absurd (not-suc-le-zero (le_of_suc-le-suc h))
 each_snoc P (y ∷ l) x d f px zero h = f zero (omega arith)
 each_snoc P (y ∷ l) x d f px (suc i) h = each_snoc P l x d (λ k kh. f (suc k) (omega arith)) px i (le_of_suc-le-suc h)
-
-pub map-set : {A B : Type 0} (f : A → B) (l : List A) (i : ℕ) (x : A) → map f (set l i x) ≡ set (map f l) i (f x)
-map-set f [] i x = refl
-map-set f (y ∷ l) zero x = refl
-map-set f (y ∷ l) (suc i) x = ap {B = List _} (λ r. f y ∷ r) (map-set f l i x)
-
-pub take-map : {A B : Type 0} (f : A → B) (n : ℕ) (l : List A) → take n (map f l) ≡ map f (take n l)
-take-map f zero l = refl
-take-map f (suc n) [] = refl
-take-map f (suc n) (x ∷ l) = ap {B = List _} (λ r. f x ∷ r) (take-map f n l)
 
 pub among-at : (f : ℕ) (l : List ℕ) (i : ℕ) → i < length l → get_or l i 0 ≡ f → T (among f l)
 unfolding among
@@ -278,21 +268,21 @@ module _ {m : Memory} {h : History} (s : Sim m h) where
   pub push : (b : Back) → Sim (pushed m b) (next (call b) h)
   unfolding next
   push b = record {
-    root = rw length_snoc (omega arith);
+    root = rw length_push (omega arith);
     root_id = rw (get_or-append m.frames (new ∷ []) no_frame 0 s.root) s.root_id;
-    counted = ap (λ (k : ℕ). k + 1) s.counted ∙ sym (length_snoc h.made []);
+    counted = ap (λ (k : ℕ). k + 1) s.counted ∙ sym (length_push h.made []);
     stack = ap₂ (λ (l : List ℕ) (k : ℕ). l ++ (k ∷ [])) s.stack (sym s.counted) ∙ sym (map-append (λ (f : Frame). f.id) m.frames (new ∷ []));
     pointers = s.pointers;
-    begun = each_snoc (λ (f : Frame). f.id < length (h.made ++ ([] ∷ []))) m.frames new no_frame (λ i l. rw length_snoc (omega (arith, s.begun i l))) (rw length_snoc (omega (arith, s.counted)));
+    begun = each_snoc (λ (f : Frame). f.id < length (h.made ++ ([] ∷ []))) m.frames new no_frame (λ i l. rw length_push (omega (arith, s.begun i l))) (rw length_push (omega (arith, s.counted)));
     rising = rising;
     holds = each_snoc (λ (f : Frame). f.allocations ≡ map contents (made_in (h.made ++ ([] ∷ [])) f.id)) m.frames new no_frame
         (λ i l. rw (get_or-append h.made ([] ∷ []) [] _ (s.begun i l)) (s.holds i l))
         (rw (s.counted, get_or-append_seam h.made [] [] []));
     homes = λ p l. home (pointer_at m p) (s.homes p l);
-    each_below = length_snoc h.below (length h.standing) ∙ ap (λ (k : ℕ). k + 1) s.each_below ∙ sym (length_snoc h.made []);
+    each_below = length_push h.below (length h.standing) ∙ ap (λ (k : ℕ). k + 1) s.each_below ∙ sym (length_push h.made []);
     level = level;
     levels = λ p l. levelled (pointer_at m p) (s.levels p l);
-    each_back = length_snoc h.backs b ∙ ap (λ (k : ℕ). k + 1) s.each_back ∙ sym (length_snoc h.made []);
+    each_back = length_push h.backs b ∙ ap (λ (k : ℕ). k + 1) s.each_back ∙ sym (length_push h.made []);
     back = each_snoc (λ (f : Frame). get_or (h.backs ++ (b ∷ [])) f.id no_back ≡ f.back) m.frames new no_frame
         (λ i l. get_or-append h.backs (b ∷ []) no_back _ (rw s.each_back (s.begun i l)) ∙ s.back i l)
         (rw (s.counted, ← s.each_back) (get_or-append_seam h.backs b [] no_back));
@@ -303,7 +293,7 @@ module _ {m : Memory} {h : History} (s : Sim m h) where
 
       rising : (i j : ℕ) → i < j → j < length (m.frames ++ (new ∷ [])) → (frame_at (m.frames ++ (new ∷ [])) i).id < (frame_at (m.frames ++ (new ∷ [])) j).id
       rising i j l k =
-          let k' : j < length m.frames + 1 = rw length_snoc at k in
+          let k' : j < length m.frames + 1 = rw length_push at k in
           let i_in : i < length m.frames = omega arith in
           elim (dec_lt j (length m.frames)) [
             | yes j-in ↦ rw (get_or-append m.frames (new ∷ []) no_frame i i_in, get_or-append m.frames (new ∷ []) no_frame j j-in) (s.rising i j l j-in)
@@ -314,18 +304,18 @@ module _ {m : Memory} {h : History} (s : Sim m h) where
       home : (q : Pointer) → Homed m.frames h.made q → Homed (m.frames ++ (new ∷ [])) (h.made ++ ([] ∷ [])) q
       home (constant k) a = tt
       home (local i f j o) a = record {
-        begun = rw length_snoc (omega (arith, a.begun));
+        begun = rw length_push (omega (arith, a.begun));
         made = rw (get_or-append h.made ([] ∷ []) [] f a.begun) a.made;
         there = λ t.
             let x = find (m.frames ++ (new ∷ [])) f t in
             let b = a.there (each_snoc (λ (fr : Frame). fr.id ≡ f → T (among f (ids m.frames))) m.frames new no_frame
             (λ k l e. on_stack m.frames k l e) (λ e. absurd (omega (arith, a.begun, s.counted))) x.0 x.1 x.2) in
-            (rw length_snoc (omega (arith, b.0)), rw (get_or-append m.frames (new ∷ []) no_frame i b.0) b.1);
+            (rw length_push (omega (arith, b.0)), rw (get_or-append m.frames (new ∷ []) no_frame i b.0) b.1);
       }
 
       level : (i : ℕ) → i < length (m.frames ++ (new ∷ [])) → get_or (h.below ++ (length h.standing ∷ [])) (frame_at (m.frames ++ (new ∷ [])) i).id 0 ≡ i
       level i l =
-          let l' : i < length m.frames + 1 = rw length_snoc at l in
+          let l' : i < length m.frames + 1 = rw length_push at l in
           elim (dec_lt i (length m.frames)) [
             | yes i_in ↦ rw (get_or-append m.frames (new ∷ []) no_frame i i_in)
                 (get_or-append h.below (length h.standing ∷ []) 0 _ (rw s.each_below (s.begun i i_in)) ∙ s.level i i_in)
@@ -336,7 +326,7 @@ module _ {m : Memory} {h : History} (s : Sim m h) where
 
       levelled : (q : Pointer) → Levelled h.below q → Levelled (h.below ++ (length h.standing ∷ [])) q
       levelled (constant k) a = tt
-      levelled (local i f j o) a = (rw length_snoc (omega (arith, a.0)), get_or-append h.below (length h.standing ∷ []) 0 f a.0 ∙ a.1)
+      levelled (local i f j o) a = (rw length_push (omega (arith, a.0)), get_or-append h.below (length h.standing ∷ []) 0 f a.0 ∙ a.1)
 
   pub pop : 1 < length m.frames → Sim (popped m) (less_top h)
   pop deep = record {
@@ -521,7 +511,7 @@ module _ {m : Memory} {h : History} (s : Sim m h) where
       let new : Made = record { size = n; byte = λ i. 0 } in
       let old : List Made = made_in h.made f.id in
       let in_stack : t < length m.frames = omega (arith, s.root) in
-      let more : length old ≤ length (old ++ (new ∷ [])) = rw length_snoc (omega arith) in
+      let more : length old ≤ length (old ++ (new ∷ [])) = rw length_push (omega arith) in
       let bytes : map contents (old ++ (new ∷ [])) ≡ f.allocations ++ (replicate n 0 ∷ []) =
       map-append contents old (new ∷ []) ∙ ap₂ (λ (l : List (List ℕ)) (c : List ℕ). l ++ (c ∷ [])) (sym (s.holds t in_stack)) (sym (zeros n)) in
       let count : length old ≡ length f.allocations = sym (ap length (s.holds t in_stack) ∙ length-map old contents) in
@@ -529,7 +519,7 @@ module _ {m : Memory} {h : History} (s : Sim m h) where
       sym (ap (λ (l : List ℕ). get_or l (length l - 1) 0) s.stack ∙ ap (λ (x : ℕ). get_or (ids m.frames) (x - 1) 0) (length-map m.frames (λ (g : Frame). g.id)) ∙ id-at m.frames t) in
       let home : Home (changed s t in_stack (old ++ (new ∷ [])) more) (set h.made f.id (old ++ (new ∷ []))) t f.id (length old) = record {
         begun = rw length-set (s.begun t in_stack);
-        made = rw (get_or-set_same h.made f.id (old ++ (new ∷ [])) [] (s.begun t in_stack), length_snoc) (omega arith);
+        made = rw (get_or-set_same h.made f.id (old ++ (new ∷ [])) [] (s.begun t in_stack), length_push) (omega arith);
         there = λ a. (rw length-set in_stack, same_id s t in_stack (old ++ (new ∷ [])) more t);
       } in
       subst (λ (x : ℕ). Sim (allocated m n) (with_given (with_made h (set h.made x (made_in h.made x ++ (new ∷ [])))) (of_place x (length (made_in h.made x)) 0))) name

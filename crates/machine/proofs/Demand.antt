@@ -1,8 +1,8 @@
 -- Demand 3. After any accepted asks the memory and the history are alike (`Sim`), so what is replied is what the history tells; each theorem then
 -- reads off what `told` is, check by check.
-use Prim.Native.Nat.{ℕ, zero, suc, ◌+◌, ◌%◌, ◌≤◌, ◌<◌, ◌∣◌}
+use Prim.Native.Nat.{ℕ, zero, suc, ◌+◌, ◌%◌, ◌<◌, ◌∣◌}
 use native.Mathlib.Nat.{dvd_iff_mod-eq-zero}
-use native.Mathlib.Decide.{dec_le, dec_lt, ℕ_discrete}
+use native.Mathlib.Decide.{ℕ_discrete}
 use native.Mathlib.Omega.{arith}
 use mathlib.Core.Bool.{Bool, true, false, not, ◌&&◌}
 use mathlib.Core.Logic.{◌≢◌, ◌⊎◌, inl, inr}
@@ -11,8 +11,11 @@ use mathlib.Core.List.{List, [], ◌∷◌, ◌++◌, map}
 use mathlib.Core.Option.{some}
 use lib.ListN.{length, get_or, take, set, length-map}
 use lib.Seq.{get_or-set_same, get_or-set_other}
-use lib.Dec.{T, ltb, leb, eqb, eqb_refl, eqb→eq, ltb→lt, leb→le, lt→ltb, le→leb}
-use Rattle.value.specs.Refusal.{not_given_out, frame_gone, beyond_length, misaligned, not_bool, no_constant, short_table, idle}
+use lib.Dec.{T, ltb, leb, eqb, eqb_refl, eqb→eq, ltb→lt, leb→le, lt→ltb, le→leb, T_not}
+use mir.Facts.{not_T, ltb_no, leb_no, ltb_absurd, no_leb}
+use Rattle.std.proofs.lemmas.Bool.{false≢true}
+use Rattle.value.specs.declared.refusal.Refusal.{Refusal}
+use Rattle.value.specs.Refusal.{not_given_out, frame_gone, beyond_length, misaligned, not_bool, no_constant, short_table, idle, number_of}
 use Rattle.value.specs.Answer.{Answer, ok, refused, need, found, ◌>>=◌}
 use Rattle.value.specs.Value.{Value, value, IrType, kind_of, size, same, bool, le_number, from_bytes}
 use Rattle.value.proofs.Truth.{is_true}
@@ -68,30 +71,24 @@ reply-told as' t P p n =
 told-ok : (a : Answer (List ℕ)) (bs : List ℕ) → as_reply a ≡ bytes bs → a ≡ ok bs
 unfolding as_reply
 told-ok (ok cs) bs e = cc
-told-ok (refused n) bs e = let z : ◌≡◌ {A = ℕ} 0 1 = cc in absurd (omega arith)
+told-ok (refused n) bs e = absurd (false≢true cc)
 
-told_no : (a : Answer (List ℕ)) (k : ℕ) → as_reply a ≡ refusal k → a ≡ refused k
+told_no : (a : Answer (List ℕ)) (k : Refusal) → as_reply a ≡ refusal k → a ≡ refused k
 unfolding as_reply
-told_no (ok cs) k e = let z : ◌≡◌ {A = ℕ} 0 1 = cc in absurd (omega arith)
+told_no (ok cs) k e = absurd (false≢true cc)
 told_no (refused n) k e = cc
 
 -- ---- tests that fail
 
-need_no : {A : Type 0} (b : Bool) (n : ℕ) (a : Answer A) → (T b → ⊥) → need b n a ≡ refused n
+need_no : {A : Type 0} (b : Bool) (n : Refusal) (a : Answer A) → (T b → ⊥) → need b n a ≡ refused n
 unfolding need
 need_no true n a f = absurd (f tt)
 need_no false n a f = refl
 
-need-cases : {A : Type 0} (Q : Answer A → Type 0) (b : Bool) (n : ℕ) (a : Answer A) → (T b → Q a) → ((T b → ⊥) → Q (refused n)) → Q (need b n a)
+need-cases : {A : Type 0} (Q : Answer A → Type 0) (b : Bool) (n : Refusal) (a : Answer A) → (T b → Q a) → ((T b → ⊥) → Q (refused n)) → Q (need b n a)
 unfolding need
 need-cases Q true n a f g = f tt
 need-cases Q false n a f g = g (λ t. t)
-
-not-lt : (a b : ℕ) → (T (ltb a b) → ⊥) → b ≤ a
-not-lt a b f = elim (dec_lt a b) [ yes l ↦ absurd (f (lt→ltb a b l)) | no n ↦ omega arith ]
-
-not-le : (a b : ℕ) → (T (leb a b) → ⊥) → b < a
-not-le a b f = elim (dec_le a b) [ yes l ↦ absurd (f (le→leb a b l)) | no n ↦ omega arith ]
 
 divides_dvd : (n o : ℕ) → T (divides n o) → n ∣ o
 divides_dvd n o t = (dvd_iff_mod-eq-zero n).1 (eqb→eq (o % n) 0 t)
@@ -109,7 +106,7 @@ module _ (h : History) (P : Program) (p n : ℕ) where
 
   data Tells : Answer (List ℕ) → Type 0 where
     grants : {bs : List ℕ} → Right h P p n → bs ≡ bytes_of (target_of h p) → Tells (ok bs)
-    refuses : {k : ℕ} → Why h P p n k → Tells (refused k)
+    refuses : {k : Refusal} → Why h P p n k → Tells (refused k)
 
   tells_at : p < length h.given → (t : Target) → target_of h p ≡ t → Tells (told_at P.constants h t n)
   unfolding told_at read_constant bytes_of
@@ -117,22 +114,22 @@ module _ (h : History) (P : Program) (p n : ℕ) where
       need-cases Tells (ltb k (length P.constants)) no_constant _
       (λ a. need-cases Tells (leb n (length (get_or P.constants k []))) beyond_length _
       (λ b. grants (of-constant (g, e) (ltb→lt k _ a) (leb→le n _ b)) (rw e))
-      (λ b. refuses (past-constant (g, e) (ltb→lt k _ a) (not-le n _ b))))
-      (λ a. refuses (not-here (g, e) (not-lt k _ a)))
+      (λ b. refuses (past-constant (g, e) (ltb→lt k _ a) (leb_no (not_T _ b)))))
+      (λ a. refuses (not-here (g, e) (ltb_no (not_T _ a))))
   tells_at g (of_place f j o) e =
       need-cases Tells (among f h.standing) frame_gone _
       (λ a. need-cases Tells (leb (o + n) (made_at h.made f j).size) beyond_length _
       (λ b. need-cases Tells (divides n o) misaligned _
       (λ c. grants (of-place (g, e) a (leb→le (o + n) _ b) (divides_dvd n o c)) (rw e))
       (λ c. refuses (uneven (g, e) a (leb→le (o + n) _ b) (λ d. c (dvd_divides n o d)))))
-      (λ b. refuses (too_long (g, e) a (not-le (o + n) _ b))))
+      (λ b. refuses (too_long (g, e) a (leb_no (not_T _ b)))))
       (λ a. refuses (ended (g, e) a))
 
   tells_what : Tells (told P.constants h p n)
   unfolding told
   tells_what =
       need-cases Tells (ltb p (length h.given)) not_given_out _ (λ g. tells_at (ltb→lt p _ g) (target_of h p) refl)
-      (λ g. refuses (never_given (not-lt p _ g)))
+      (λ g. refuses (never_given (ltb_no (not_T _ g))))
 
   told-target : {t : Target} → StandsFor h p t → told P.constants h p n ≡ told_at P.constants h t n
   unfolding told
@@ -150,53 +147,47 @@ module _ (h : History) (P : Program) (p n : ℕ) where
         ∙ need_yes (divides n o) misaligned _ (dvd_divides n o c),
   )
 
-  lt_not : (a b : ℕ) → b ≤ a → T (ltb a b) → ⊥
-  lt_not a b l t = omega (arith, ltb→lt a b t)
-
-  le_not : (a b : ℕ) → b < a → T (leb a b) → ⊥
-  le_not a b l t = omega (arith, leb→le a b t)
-
-  why_told : {k : ℕ} → Why h P p n k → told P.constants h p n ≡ refused k
+  why_told : {k : Refusal} → Why h P p n k → told P.constants h p n ≡ refused k
   unfolding told told_at read_constant
-  why_told (never_given l) = need_no (ltb p (length h.given)) not_given_out _ (lt_not p _ l)
+  why_told (never_given l) = need_no (ltb p (length h.given)) not_given_out _ (ltb_absurd l)
   why_told (ended {f} s a) = told-target s ∙ need_no (among f h.standing) frame_gone _ a
   why_told (too_long {f} {j} {o} s a b) =
-      told-target s ∙ need_yes (among f h.standing) frame_gone _ a ∙ need_no (leb (o + n) (made_at h.made f j).size) beyond_length _ (le_not (o + n) _ b)
+      told-target s ∙ need_yes (among f h.standing) frame_gone _ a ∙ need_no (leb (o + n) (made_at h.made f j).size) beyond_length _ (T_not _ (no_leb b))
   why_told (uneven {f} {j} {o} s a b c) =
       told-target s ∙ need_yes (among f h.standing) frame_gone _ a ∙ need_yes (leb (o + n) (made_at h.made f j).size) beyond_length _ (le→leb (o + n) _ b)
       ∙ need_no (divides n o) misaligned _ (λ d. c (divides_dvd n o d))
-  why_told (not-here {k} s a) = told-target s ∙ need_no (ltb k (length P.constants)) no_constant _ (lt_not k _ a)
+  why_told (not-here {k} s a) = told-target s ∙ need_no (ltb k (length P.constants)) no_constant _ (ltb_absurd a)
   why_told (past-constant {k} s a b) =
-      told-target s ∙ need_yes (ltb k (length P.constants)) no_constant _ (lt→ltb k _ a) ∙ need_no (leb n (length (get_or P.constants k []))) beyond_length _ (le_not n _ b)
+      told-target s ∙ need_yes (ltb k (length P.constants)) no_constant _ (lt→ltb k _ a) ∙ need_no (leb n (length (get_or P.constants k []))) beyond_length _ (T_not _ (no_leb b))
 
   of-ok : {bs : List ℕ} → Tells (ok bs) → Right h P p n × (bs ≡ bytes_of (target_of h p))
   of-ok (grants r e) = (r, e)
 
-  of-refused : {k : ℕ} → Tells (refused k) → Why h P p n k
+  of-refused : {k : Refusal} → Tells (refused k) → Why h P p n k
   of-refused (refuses w) = w
 
   -- of all reasons, only an ended frame gives 27
-  gone : {k : ℕ} → Why h P p n k → k ≡ frame_gone → (f : ℕ) × (j : ℕ) × (o : ℕ) × StandsFor h p (of_place f j o) × Ended h f
-  gone (never_given l) e = absurd (omega arith)
+  gone : {k : Refusal} → Why h P p n k → k ≡ frame_gone → (f : ℕ) × (j : ℕ) × (o : ℕ) × StandsFor h p (of_place f j o) × Ended h f
+  gone (never_given l) e = absurd (omega (arith, ap number_of e))
   gone (ended {f} {j} {o} s a) e = (f, j, o, s, a)
-  gone (too_long s a b) e = absurd (omega arith)
-  gone (uneven s a b c) e = absurd (omega arith)
-  gone (not-here s a) e = absurd (omega arith)
-  gone (past-constant s a b) e = absurd (omega arith)
+  gone (too_long s a b) e = absurd (omega (arith, ap number_of e))
+  gone (uneven s a b c) e = absurd (omega (arith, ap number_of e))
+  gone (not-here s a) e = absurd (omega (arith, ap number_of e))
+  gone (past-constant s a b) e = absurd (omega (arith, ap number_of e))
 
   -- 31 is none of them
-  not_31 : {k : ℕ} → Why h P p n k → k ≢ not_bool
-  not_31 (never_given l) e = absurd (omega arith)
-  not_31 (ended s a) e = absurd (omega arith)
-  not_31 (too_long s a b) e = absurd (omega arith)
-  not_31 (uneven s a b c) e = absurd (omega arith)
-  not_31 (not-here s a) e = absurd (omega arith)
-  not_31 (past-constant s a b) e = absurd (omega arith)
+  not_31 : {k : Refusal} → Why h P p n k → k ≢ not_bool
+  not_31 (never_given l) e = absurd (omega (arith, ap number_of e))
+  not_31 (ended s a) e = absurd (omega (arith, ap number_of e))
+  not_31 (too_long s a b) e = absurd (omega (arith, ap number_of e))
+  not_31 (uneven s a b c) e = absurd (omega (arith, ap number_of e))
+  not_31 (not-here s a) e = absurd (omega (arith, ap number_of e))
+  not_31 (past-constant s a b) e = absurd (omega (arith, ap number_of e))
 
-  right_or_why : Right h P p n ⊎ ((k : ℕ) × Why h P p n k)
+  right_or_why : Right h P p n ⊎ ((k : Refusal) × Why h P p n k)
   right_or_why = go (told P.constants h p n) tells_what
     where
-      go : (a : Answer (List ℕ)) → Tells a → Right h P p n ⊎ ((k : ℕ) × Why h P p n k)
+      go : (a : Answer (List ℕ)) → Tells a → Right h P p n ⊎ ((k : Refusal) × Why h P p n k)
       go (ok bs) (grants r e) = inl r
       go (refused k) (refuses w) = inr (k, w)
 
@@ -212,7 +203,7 @@ module _ (as' : List Ask) (t : Accepted as') (P : Program) (p n : ℕ) where
   granted {bs} e =
       of-ok (tells as') P p n (subst (Tells (tells as') P p n) (told-ok _ bs (sym (reply-told as' t P p n) ∙ e)) (tells_what (tells as') P p n))
 
-  refused_why : {k : ℕ} → reply as' P p n ≡ refusal k → Why (tells as') P p n k
+  refused_why : {k : Refusal} → reply as' P p n ≡ refusal k → Why (tells as') P p n k
   refused_why {k} e =
       of-refused (tells as') P p n (subst (Tells (tells as') P p n) (told_no _ k (sym (reply-told as' t P p n) ∙ e)) (tells_what (tells as') P p n))
 
@@ -308,7 +299,7 @@ module _ {m : Memory} {h : History} (s : Sim m h) where
     where
       go : (q : Pointer) → pointer_at m p ≡ q → Homed m.frames h.made q → forget q ≡ of_place f j o
           → (i : ℕ) × (pointer_at m p ≡ local i f j o) × Home m.frames h.made i f j
-      go (constant k) e home x = let z : ◌≡◌ {A = ℕ} 0 1 = cc in absurd (omega arith)
+      go (constant k) e home x = absurd (false≢true cc)
       go (local i f' j' o') e home x =
           let ef : f' ≡ f = cc in
           let ej : j' ≡ j = cc in
@@ -379,16 +370,16 @@ step-entered : (as' : List Ask) → Accepted as' → (P : Program) → T (state_
 unfolding ask step_once
 step-entered as' t P r a e = entered (to_step P) (state_after as') (always_sound as' t) ∙ ap (steps (state_after as')) (need_yes (state_after as').running idle _ r ∙ e)
 
-done-not : {k : ℕ} → done ≡ refusal k → ⊥
-done-not e = let z : ◌≡◌ {A = ℕ} 0 1 = cc in omega arith
+done-not : {k : Refusal} → done ≡ refusal k → ⊥
+done-not e = false≢true cc
 
 -- once its bytes are read, a Read is refused with 31 alone
-value_31 : (s : Machine Memory) (to : ℕ) (type : IrType) (bs : List ℕ) (k : ℕ) → (steps s (from_bytes type bs >>= λ v. sets believed s to v)).reply ≡ refusal k → k ≡ not_bool
+value_31 : (s : Machine Memory) (to : ℕ) (type : IrType) (bs : List ℕ) (k : Refusal) → (steps s (from_bytes type bs >>= λ v. sets believed s to v)).reply ≡ refusal k → k ≡ not_bool
 unfolding from_bytes need steps ◌>>=◌
 value_31 s to type bs k e = go (not (same (kind_of type) bool && ltb 1 (le_number bs))) (value (kind_of type) (le_number bs)) e
   where
     go : (b : Bool) (v : Value) → (steps s (need b not_bool (ok v) >>= λ v. sets believed s to v)).reply ≡ refusal k → k ≡ not_bool
-    go true v e = let z : ◌≡◌ {A = ℕ} 0 1 = cc in absurd (omega arith)
+    go true v e = absurd (false≢true cc)
     go false v e = cc
 
 value_set : (s : Machine Memory) (to : ℕ) (type : IrType) (bs : List ℕ) → (steps s (from_bytes type bs >>= λ v. sets believed s to v)).reply ≡ done
@@ -419,26 +410,26 @@ module _ (as' : List Ask) (t : Accepted as') (P : Program) (to : ℕ) (type : Ir
       → stepped as' P ≡ steps (state_after as') (a >>= λ bs. from_bytes type bs >>= λ v. sets believed (state_after as') to v)
   read-turn a e = step-entered as' t P r.runs _ (step-read (state_after as') P to type p r a (read_agrees (agrees as' t) P.constants p n ∙ e))
 
-  read-refused : {k : ℕ} → Why (tells as') P p n k → (stepped as' P).reply ≡ refusal k
+  read-refused : {k : Refusal} → Why (tells as') P p n k → (stepped as' P).reply ≡ refusal k
   unfolding steps ◌>>=◌
   read-refused {k} w = ap (λ (x : Turn Memory). x.reply) (read-turn (refused k) (why_told (tells as') P p n w))
 
-  read_granted : Right (tells as') P p n → (k : ℕ) → (stepped as' P).reply ≡ refusal k → k ≡ not_bool
+  read_granted : Right (tells as') P p n → (k : Refusal) → (stepped as' P).reply ≡ refusal k → k ≡ not_bool
   unfolding ◌>>=◌
   read_granted g k e =
       let x = right_told (tells as') P p n g in
       value_31 (state_after as') to type x.0 k (sym (ap (λ (x : Turn Memory). x.reply) (read-turn (ok x.0) x.1)) ∙ e)
 
-  granted_right : ((k : ℕ) → (stepped as' P).reply ≡ refusal k → k ≡ not_bool) → Right (tells as') P p n
+  granted_right : ((k : Refusal) → (stepped as' P).reply ≡ refusal k → k ≡ not_bool) → Right (tells as') P p n
   granted_right f = elim (right_or_why (tells as') P p n) [ inl g ↦ g | inr w ↦ absurd (not_31 (tells as') P p n w.1 (f w.0 (read-refused w.1))) ]
 
-  number_why : (k : ℕ) → k ≢ not_bool → (stepped as' P).reply ≡ refusal k → Why (tells as') P p n k
+  number_why : (k : Refusal) → k ≢ not_bool → (stepped as' P).reply ≡ refusal k → Why (tells as') P p n k
   number_why k d e = elim (right_or_why (tells as') P p n) [
     | inl g ↦ absurd (d (read_granted g k e))
     | inr w ↦ subst (Why (tells as') P p n) (same_number w.0 k (sym (read-refused w.1) ∙ e)) w.1
   ]
     where
-      same_number : (i k : ℕ) → refusal i ≡ refusal k → i ≡ k
+      same_number : (i k : Refusal) → refusal i ≡ refusal k → i ≡ k
       same_number i k e = cc
 
   read-value : {f j o : ℕ} → StandsFor (tells as') p (of_place f j o) → (stepped as' P).reply ≡ done
@@ -462,7 +453,7 @@ module _ (as' : List Ask) (t : Accepted as') (P : Program) (q p n : ℕ) (c : At
       → stepped as' P ≡ steps (state_after as') (a >>= λ bs. write_bytes (state_after as').memory q bs >>= λ m. onward believed (state_after as') m (state_after as').vars)
   copy_turn a e = step-entered as' t P c.runs _ (step_copy (state_after as') P q p n c a (read_agrees (agrees as' t) P.constants p n ∙ e))
 
-  copy_refused : {k : ℕ} → Why (tells as') P p n k → (stepped as' P).reply ≡ refusal k
+  copy_refused : {k : Refusal} → Why (tells as') P p n k → (stepped as' P).reply ≡ refusal k
   unfolding steps ◌>>=◌
   copy_refused {k} w = ap (λ (x : Turn Memory). x.reply) (copy_turn (refused k) (why_told (tells as') P p n w))
 

@@ -6,10 +6,11 @@ use native.Mathlib.Omega.{arith}
 use mathlib.Core.Bool.{Bool, true, false, not, ◌&&◌, ◌||◌}
 use mathlib.Core.Path.{◌≡◌, refl, subst}
 use mathlib.Core.List.{List, [], ◌∷◌, flatten}
-use mathlib.Core.Option.{Option, none, some}
+use mathlib.Core.Option.{Option, none, some, none-ne-some}
 use lib.ListN.{length, take, get_elem?, length-append}
 use lib.Dec.{T, leb, eqb, ltb→lt, leb→le, lt→ltb, le→leb}
-use mir.Facts.{and_yes, yes_and}
+use mir.Facts.{and_yes, yes_and, T_not-not}
+use Rattle.value.specs.declared.refusal.Refusal.{Refusal}
 use Rattle.value.specs.Refusal.{no_instruction}
 use Rattle.value.specs.Answer.{Answer, ok, refused, found, ◌>>=◌, pick}
 use Rattle.value.specs.Value.{Value, value, Kind, bool, u8, u16, u32, u64, i8, i16, i32, i64, f32, f64, char, asn, pointer, tag, same, kind_of, size, is_scalar, is_bad_char, bytes_of}
@@ -32,13 +33,10 @@ flatten_front zero bs = omega arith
 flatten_front (suc n) [] = le_refl _
 flatten_front (suc n) (b ∷ bs) = rw (length-append b (flatten (take n bs)), length-append b (flatten bs)) (omega (arith, flatten_front n bs))
 
-none≢some : {A : Type 0} {x : A} → none ≡ some x → ⊥
-none≢some e = let z : ◌≡◌ {A = ℕ} 0 1 = cc in omega arith
-
 -- an instruction stands at its place, and is one of those that were accepted
 instruction-at : (f : Instruction → Bool) (is : List Instruction) (k : ℕ) (i : Instruction) → T (all f is) → get_elem? is k ≡ some i → (k < length is) × T (f i)
 unfolding all
-instruction-at f [] k i t e = absurd (none≢some e)
+instruction-at f [] k i t e = absurd (none-ne-some _ e)
 instruction-at f (x ∷ is) zero i t e =
     let same : x ≡ i = cc in
     (omega arith, subst (λ (y : Instruction). T (f y)) same (and_yes (f x) (all f is) t).0)
@@ -60,7 +58,7 @@ set-good vs x v g h y l = go (eqb y x)
     go true = h
     go false = g y l
 
-found-good : (n : ℕ) (o : Option Value) → GoodIf o → Keeps Good (found n o)
+found-good : (n : Refusal) (o : Option Value) → GoodIf o → Keeps Good (found n o)
 unfolding found
 found-good n none t = no_answer
 found-good n (some v) t = kept t
@@ -76,10 +74,6 @@ given-good : (v : Value) → T (given v) → T (not (is_bad_char v)) → Good v
 unfolding given is_bad_char holds tag
 given-good v t u = go v.kind t u
   where
-    scalar : (b : Bool) → T (not (not b)) → T b
-    scalar true x = tt
-    scalar false x = x
-
     go : (k : Kind) → T (same k char || holds k v.bits) → T (not (same k char && not (is_scalar v.bits))) → T (holds k v.bits)
     go bool t u = t
     go u8 t u = t
@@ -94,7 +88,7 @@ given-good v t u = go v.kind t u
     go f64 t u = t
     go asn t u = t
     go pointer t u = t
-    go char t u = scalar (is_scalar v.bits) u
+    go char t u = T_not-not (is_scalar v.bits) u
 
 values-good : (vs : Vars) → GoodVars vs → (xs : List ℕ) (gs : List Value) → T (all given gs) → T (all_good gs) → GoodVars (set_values vs xs gs)
 unfolding set_values all_good all

@@ -7,6 +7,7 @@ use mathlib.Core.List.{List, [], ◌∷◌}
 use mathlib.Core.Option.{Option}
 use lib.ListN.{length}
 use lib.Dec.{leb}
+use Rattle.value.specs.declared.refusal.Refusal.{Refusal}
 use Rattle.value.specs.Refusal.{bytes_exceed_size}
 use Rattle.value.specs.Answer.{Answer, ok, refused, need, ◌>>=◌}
 use Rattle.value.specs.Value.{Value, value, pointer, kind_of, size, bytes_of}
@@ -19,7 +20,7 @@ use Rattle.machine.specs.Asks.{Ask, to_allocate, to_write, to_read, to_start, to
 
 -- ---- answers that are alike
 
-pub alike_need : {A B : Type 0} (R : A → B → Type 0) (b : Bool) (n : ℕ) {x : Answer A} {y : Answer B} → Alike R x y → Alike R (need b n x) (need b n y)
+pub alike_need : {A B : Type 0} (R : A → B → Type 0) (b : Bool) (n : Refusal) {x : Answer A} {y : Answer B} → Alike R x y → Alike R (need b n x) (need b n y)
 unfolding need
 alike_need R true n a = a
 alike_need R false n a = both-refused

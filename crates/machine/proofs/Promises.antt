@@ -1,10 +1,11 @@
 -- What is promised of every entry: by cases of the ask, and of the instruction where only a Return at root ends a run.
 use Prim.Native.Nat.{ℕ}
-use native.Mathlib.Omega.{arith}
 use mathlib.Core.Bool.{Bool, true, false}
 use mathlib.Core.Path.{◌≡◌, refl, subst}
 use mathlib.Core.List.{List}
 use mathlib.Core.Option.{Option, none, some}
+use Rattle.std.proofs.lemmas.Bool.{false≢true}
+use Rattle.value.specs.declared.refusal.Refusal.{Refusal}
 use Rattle.value.specs.Refusal.{not_sound}
 use Rattle.value.specs.Answer.{Answer, ok, refused, pick}
 use Rattle.value.specs.Value.{Value}
@@ -33,7 +34,7 @@ count_is_steps P budget s = run_means believed P budget s
 
 -- ---- a refusal changes nothing
 
-module _ (s : Machine Memory) (k : ℕ) where
+module _ (s : Machine Memory) (k : Refusal) where
   changes-nothing : (r : Reply) → (r ≡ refusal k → ⊥) → (a : Answer (Machine Memory)) → (changes s r a).reply ≡ refusal k → (changes s r a).machine ≡ s
   unfolding changes
   changes-nothing r f (ok s') e = absurd (f e)
@@ -46,13 +47,13 @@ module _ (s : Machine Memory) (k : ℕ) where
 
   steps-nothing : (a : Answer (Stepped Memory)) → (steps s a).reply ≡ refusal k → (steps s a).machine ≡ s
   unfolding steps
-  steps-nothing (ok (went s')) e = absurd (let z : ◌≡◌ {A = ℕ} 0 1 = cc in omega arith)
-  steps-nothing (ok (ended v s')) e = absurd (let z : ◌≡◌ {A = ℕ} 0 1 = cc in omega arith)
+  steps-nothing (ok (went s')) e = absurd (false≢true cc)
+  steps-nothing (ok (ended v s')) e = absurd (false≢true cc)
   steps-nothing (refused n) e = refl
 
   goes-nothing : (a : Answer (Ran Memory)) → (goes s a).reply ≡ refusal k → (goes s a).machine ≡ s
   unfolding goes
-  goes-nothing (ok r) e = absurd (let z : ◌≡◌ {A = ℕ} 0 1 = cc in omega arith)
+  goes-nothing (ok r) e = absurd (false≢true cc)
   goes-nothing (refused n) e = refl
 
   lays-nothing : (a : Answer (List Live)) → (lays s a).machine ≡ s
@@ -62,10 +63,10 @@ module _ (s : Machine Memory) (k : ℕ) where
 
   asks_nothing : (a : Ask) → (ask believed a s).reply ≡ refusal k → (ask believed a s).machine ≡ s
   unfolding ask
-  asks_nothing (to_allocate n) e = changes-nothing _ (λ d. absurd (let z : ◌≡◌ {A = ℕ} 0 1 = cc in omega arith)) _ e
-  asks_nothing (to_write p bs) e = changes-nothing _ (λ d. absurd (let z : ◌≡◌ {A = ℕ} 0 1 = cc in omega arith)) _ e
+  asks_nothing (to_allocate n) e = changes-nothing _ (λ d. absurd (false≢true cc)) _ e
+  asks_nothing (to_write p bs) e = changes-nothing _ (λ d. absurd (false≢true cc)) _ e
   asks_nothing (to_read P p n) e = shows_nothing _
-  asks_nothing (to_start P f context gs) e = changes-nothing _ (λ d. absurd (let z : ◌≡◌ {A = ℕ} 0 1 = cc in omega arith)) _ e
+  asks_nothing (to_start P f context gs) e = changes-nothing _ (λ d. absurd (false≢true cc)) _ e
   asks_nothing (to_step P) e = steps-nothing _ e
   asks_nothing (to_run P budget) e = goes-nothing _ e
   asks_nothing (to_list room) e = lays-nothing _

@@ -7,6 +7,7 @@ use mathlib.Core.List.{List, [], ◌∷◌, map}
 use mathlib.Core.Option.{none, some}
 use lib.ListN.{length, get_or, length-map}
 use lib.Dec.{T, ltb, leb, ltb→lt, lt→ltb}
+use Rattle.value.specs.declared.refusal.Refusal.{Refusal}
 use Rattle.value.specs.Refusal.{allocations_full, beyond_length, bytes_full, frame_gone, frames_full, ids_spent, misaligned, not_given_out, offset_too_large, pointers_full}
 use Rattle.value.specs.Answer.{Answer, ok, need, pick}
 use Rattle.memory.specs.Memory.{Memory, Back, Frame, Pointer, constant, local, top, sum, frame_at, pointer_at, stands, written, popped, allocate, live_count, live_bytes, write_at, write_bytes, offset_at, offset_by, constant_address, push_frame, pop_frame, live_pointer, live_list, no_back}
@@ -18,7 +19,7 @@ use Rattle.machine.specs.Believed.{believed}
 use Rattle.machine.specs.Recalled.{recalled}
 use Rattle.machine.proofs.Agree.{Sim, Homed, forget, contents, ids, id-at, need_yes, fresh_agrees, give, push, pop, access_agrees, target_at, same_length, read_agrees, allocate_agrees, write-at, length_contents, Levelled, stands-among, allocations-at, bool_iff}
 
-alike_same : {A B : Type 0} (R : A → B → Type 0) (b c : Bool) (n : ℕ) (x : Answer A) (y : Answer B) → b ≡ c → (T c → Alike R x y) → Alike R (need b n x) (need c n y)
+alike_same : {A B : Type 0} (R : A → B → Type 0) (b c : Bool) (n : Refusal) (x : Answer A) (y : Answer B) → b ≡ c → (T c → Alike R x y) → Alike R (need b n x) (need c n y)
 unfolding need
 alike_same R b true n x y e f = rw e (f tt)
 alike_same R b false n x y e f = rw e both-refused

@@ -9,15 +9,16 @@ use mathlib.Core.Path.{◌≡◌, refl, sym, ap, ◌∙◌, subst}
 use mathlib.Core.List.{List, [], ◌∷◌, ◌++◌, map, map-append}
 use mathlib.Core.Option.{none, some}
 use lib.ListN.{length, get_or, take, drop, set, replicate, length-set, length-append, length-replicate, length-drop, get_or-append}
-use lib.Seq.{map-set_same, get_or-append_seam, get_or-take, length-take-le}
+use lib.Seq.{map-set_same, get_or-append_seam, get_or-take, length-take-le, take-suc}
 use lib.Dec.{T, ltb, leb, eqb, eqb→eq, ltb→lt, leb→le, lt→ltb, le→leb}
 use mir.Facts.{and_yes, yes_and}
+use Rattle.std.proofs.lemmas.List.{length_push, take_all}
 use Rattle.value.specs.Answer.{Answer, pick}
 use Rattle.memory.specs.Memory.{Memory, Back, Frame, Pointer, constant, local, no_frame, frame_at, pointer_at, top, stands, bytes_at, sum, live_count, live_bytes, with_pointer, with_frames, with_allocations, allocated, allocate, constant_address, access, overwrite, written, write_at, write_bytes, read_constant, read_at, read_bytes, offset_at, offset_by, pushed, push_frame, popped, pop_frame}
 use Rattle.memory.specs.Sound.{rising, good_back, good_backs, sound_memory}
 use Rattle.machine.specs.Sound.{all, are_bytes, bytes_in}
 use Rattle.machine.specs.Believed.{believed}
-use Rattle.machine.proofs.Agree.{ids, length_snoc, ids_kept, id-kept}
+use Rattle.machine.proofs.Agree.{ids, ids_kept, id-kept}
 use Rattle.machine.proofs.Values.{Bytes, Keeps, kept, no_answer, keeps-need}
 use Rattle.machine.proofs.Kept.{Kept, Popping, at_root, back_to_lem}
 
@@ -33,13 +34,6 @@ sum_snoc : {A : Type 0} (g : A → ℕ) (l : List A) (x : A) → sum (map g (l +
 unfolding sum
 sum_snoc g [] x = omega arith
 sum_snoc g (y ∷ l) x = omega (arith, sum_snoc g l x)
-
--- a list is its front and its last
-snoc_split : {A : Type 0} (l : List A) (t : ℕ) (d : A) → suc t ≡ length l → l ≡ take t l ++ (get_or l t d ∷ [])
-snoc_split [] t d e = absurd (omega arith)
-snoc_split (x ∷ []) zero d e = refl
-snoc_split (x ∷ y ∷ l) zero d e = absurd (omega arith)
-snoc_split (x ∷ l) (suc t) d e = ap {B = List _} (λ r. x ∷ r) (snoc_split l t d (omega arith))
 
 -- ---- ids and returns, as lists of their own
 
@@ -215,13 +209,13 @@ one_more_lem m q l s = record {
     counted = s.counted;
     count = s.count;
     bytes = s.bytes;
-    pointers = rw length_snoc (omega arith);
+    pointers = rw length_push (omega arith);
     returns = s.returns;
     contents = s.contents;
   };
   later = record {
     counter = le_refl _;
-    given = λ p h. (rw length_snoc (omega arith), get_or-append m.pointers (q ∷ []) (constant 0) p h);
+    given = λ p h. (rw length_push (omega arith), get_or-append m.pointers (q ∷ []) (constant 0) p h);
     stood = λ i f h t. t;
   };
   depth = refl;
@@ -281,7 +275,7 @@ allocated_grown m n s a b c =
     let in_stack : t < length m.frames = omega (arith, s.root) in
     let counts = sum-set (λ (g : Frame). length g.allocations) m.frames t (with_allocations f bss) no_frame in_stack in
     let sizes = sum-set (λ (g : Frame). sum (map length g.allocations)) m.frames t (with_allocations f bss) no_frame in_stack in
-    let one : length bss ≡ length f.allocations + 1 = length_snoc f.allocations (replicate n 0) in
+    let one : length bss ≡ length f.allocations + 1 = length_push f.allocations (replicate n 0) in
     let more : sum (map length bss) ≡ sum (map length f.allocations) + n = sum_snoc length f.allocations (replicate n 0) ∙ ap (λ (k : ℕ). sum (map length f.allocations) + k) (length-replicate n 0) in
     let old : T (frame_bytes f) = all-at frame_bytes m.frames t no_frame s.contents tt in
     let g = change m t bss s (all_both are_bytes f.allocations (replicate n 0 ∷ []) old (yes_and (are_bytes (replicate n 0)) true (zero_bytes n) tt)) (omega (arith, counts, one)) (omega (arith, sizes, more)) in
@@ -359,8 +353,8 @@ module _ (m : Memory) (s : Solid m) where
   unfolding live_count live_bytes sum all
   pushed_changed b good deep few = record {
     solid = record {
-      root = rw length_snoc (omega arith);
-      depth = rw length_snoc (omega arith);
+      root = rw length_push (omega arith);
+      depth = rw length_push (omega arith);
       root_id = ap (λ (f : Frame). f.id) (get_or-append m.frames (new ∷ []) no_frame 0 s.root) ∙ s.root_id;
       rises = rw (map-append (λ (f : Frame). f.id) m.frames (new ∷ [])) (rising_snoc (ids m.frames) m.counter (m.counter + 1) s.rises (omega arith));
       counted = omega arith;
@@ -379,7 +373,7 @@ module _ (m : Memory) (s : Solid m) where
       stood : (i f : ℕ) → f < m.counter → T (stands (m.frames ++ (new ∷ [])) i f) → T (stands m.frames i f)
       stood i f l t =
           let u = and_yes (ltb i (length (m.frames ++ (new ∷ [])))) (eqb (frame_at (m.frames ++ (new ∷ [])) i).id f) t in
-          let h : i < length m.frames + 1 = rw length_snoc at (ltb→lt i (length (m.frames ++ (new ∷ []))) u.0) in
+          let h : i < length m.frames + 1 = rw length_push at (ltb→lt i (length (m.frames ++ (new ∷ []))) u.0) in
           elim (dec_lt i (length m.frames)) [
             | yes a ↦ yes_and (ltb i (length m.frames)) (eqb (frame_at m.frames i).id f) (lt→ltb i (length m.frames) a) (rw (get_or-append m.frames (new ∷ []) no_frame i a) at u.1)
             | no n ↦ (let e : i ≡ length m.frames = omega arith in
@@ -396,7 +390,7 @@ module _ (m : Memory) (s : Solid m) where
 
     split : m.frames ≡ front ++ (last ∷ [])
     unfolding front last
-    split = snoc_split m.frames (top m.frames) no_frame (omega arith)
+    split = sym (take_all (suc (top m.frames)) m.frames (omega arith)) ∙ take-suc m.frames (top m.frames) no_frame (omega arith)
 
     front_length : length front ≡ length m.frames - 1
     unfolding front

@@ -1,6 +1,6 @@
 -- What is done tells: a Call begins a frame, a Return ends one, a Write, a Copy and an Initialize store. The step over the history is the believed machine's
 -- (`Twin`), and each instruction's clause says which event was accepted.
-use Prim.Native.Nat.{ℕ, zero, suc, ◌+◌, ◌-◌, ◌≤◌, ◌<◌}
+use Prim.Native.Nat.{ℕ, zero, suc, ◌+◌, ◌-◌, ◌<◌}
 use native.Mathlib.Nat.{zero-add}
 use native.Mathlib.Decide.{dec_lt}
 use native.Mathlib.Omega.{arith}
@@ -12,6 +12,8 @@ use mathlib.Core.Option.{Option, none, some}
 use lib.ListN.{length, get_or, take, drop, set, get_elem?, length-set, get_or-append}
 use lib.Seq.{drop-cons, get_or-set_same, get_or-set_other, get_or-append_seam, set-append_seam, append_snoc, split_at, drop-length, length-take-le, get_or-take}
 use lib.Dec.{T, ltb, leb, eqb, eqb_refl, eqb→eq}
+use Rattle.std.proofs.lemmas.List.{length_push, get_or_past}
+use Rattle.std.proofs.lemmas.Bool.{false≢true}
 use Rattle.value.specs.Refusal.{idle, no_instruction, bytes_exceed_size}
 use Rattle.value.specs.Answer.{Answer, ok, refused, need, found, pick, ◌>>=◌}
 use Rattle.value.specs.Value.{Value, value, pointer, bytes_of}
@@ -25,7 +27,7 @@ use Rattle.machine.specs.Asks.{Ask, to_allocate, to_write, to_start, to_step, do
 use Rattle.machine.specs.Entries.{enter}
 use Rattle.machine.specs.History.{History, Made, zeros, Target, of_constant, of_place, target_of, allocation, call, made_in, nothing, made_at, stored_in, stored_at, starts, bytes_from, with_made, top_frame, less_top, next, tell_allocation, tell_address, tell_offset, tell_offset_at, tell_store, tell_store_at, tell_call, tell_return, StandsFor, Ended}
 use Rattle.machine.specs.Demand.{MovesFrames, of-call, of-return, OthersMoveNone, Accepted, state_after, tells, stepped, At, tells_with, Begins, CallsBegin, StartsIn, StartsMakeSlots, Ends, ReturnsEnd, RootNeverEnds, LastReturnEndsNone, Stores, WritesStore, CopiesStore, HostWritesStore, next_in, Makes, InitializesMake, HostAllocationsMake}
-use Rattle.machine.proofs.Agree.{Sim, need-ok, need_yes, refused≢ok, ok_inj, last_in, last_before, last-after, length_snoc, among-at, at-among, id-at}
+use Rattle.machine.proofs.Agree.{Sim, need-ok, need_yes, refused≢ok, ok_inj, last_in, last_before, last-after, among-at, at-among, id-at}
 use Rattle.machine.proofs.Values.{Keeps, kept, no_answer, keeps-need, keeps_then, keeps-after}
 use Rattle.machine.proofs.Lift.{Twin, twin, Replied, replied, ask_alike, fresh_alike, following_alike}
 use Rattle.machine.proofs.Recalled.{likened, same_depth, same-top}
@@ -57,14 +59,14 @@ following-append mem (a ∷ as') bs' s = following-append mem as' bs' (ask mem a
 step_went : {M : Type 0} (s : Machine M) (a : Answer (Stepped M)) → (steps s a).reply ≡ done → (s' : Machine M) × (a ≡ ok (went s')) × ((steps s a).machine ≡ s')
 unfolding steps
 step_went s (ok (went s')) e = (s', refl, refl)
-step_went s (ok (ended v s')) e = absurd (let z : ◌≡◌ {A = ℕ} 0 1 = cc in omega arith)
-step_went s (refused n) e = absurd (let z : ◌≡◌ {A = ℕ} 0 1 = cc in omega arith)
+step_went s (ok (ended v s')) e = absurd (false≢true cc)
+step_went s (refused n) e = absurd (false≢true cc)
 
 step-ended : {M : Type 0} (s : Machine M) (a : Answer (Stepped M)) (v : Option Value) → (steps s a).reply ≡ returned v → (s' : Machine M) × (a ≡ ok (ended v s')) × ((steps s a).machine ≡ s')
 unfolding steps
-step-ended s (ok (went s')) v e = absurd (let z : ◌≡◌ {A = ℕ} 0 1 = cc in omega arith)
+step-ended s (ok (went s')) v e = absurd (false≢true cc)
 step-ended s (ok (ended w s')) v e = (s', cc, refl)
-step-ended s (refused n) v e = absurd (let z : ◌≡◌ {A = ℕ} 0 1 = cc in omega arith)
+step-ended s (refused n) v e = absurd (false≢true cc)
 
 same-vars : {s : Machine Memory} {h : Machine History} → Twin likened s h → s.vars ≡ h.vars
 same-vars (twin r) = refl
@@ -173,7 +175,7 @@ write-went : (s : Machine History) (a : Answer History) → (changes s done (a >
     → a ≡ ok (changes s done (a >>= λ m. ok (with_memory recalled s m))).machine.memory
 unfolding changes ◌>>=◌
 write-went s (ok m) e = refl
-write-went s (refused n) e = absurd (let z : ◌≡◌ {A = ℕ} 0 1 = cc in omega arith)
+write-went s (refused n) e = absurd (false≢true cc)
 
 pub host_writes_store : HostWritesStore
 unfolding ask host_write
@@ -186,12 +188,6 @@ host_writes_store as' t p f j o bs place d =
 
 top-begun : {m : Memory} {h : History} → Sim m h → top_frame h < length h.made
 top-begun {m} {h} s = subst (λ (x : ℕ). x < length h.made) (same-top s) (s.begun (top m.frames) (omega (arith, s.root)))
-
--- an element past a list's end
-beyond : {A : Type 0} (l : List A) (i : ℕ) (d : A) → length l ≤ i → get_or l i d ≡ d
-beyond [] i d h = refl
-beyond (x ∷ l) zero d h = absurd (omega arith)
-beyond (x ∷ l) (suc i) d h = beyond l i d (omega arith)
 
 module _ (h : History) (n : ℕ) (begun : top_frame h < length h.made) where
   made_in_lem : made_in (next (allocation n) h).made (top_frame h) ≡ made_in h.made (top_frame h) ++ (zeros n ∷ [])
@@ -208,7 +204,7 @@ module _ (h : History) (n : ℕ) (begun : top_frame h < length h.made) where
     bytes = λ i. ap (λ (a : Made). a.byte i) made_at_lem;
     given = refl;
     others = λ j l. ap (λ (x : List Made). get_or x j nothing) made_in_lem ∙ get_or-append (made_in h.made (top_frame h)) _ nothing j l;
-    count = ap length made_in_lem ∙ length_snoc (made_in h.made (top_frame h)) (zeros n);
+    count = ap length made_in_lem ∙ length_push (made_in h.made (top_frame h)) (zeros n);
     elsewhere = λ f d. get_or-set_other h.made (top_frame h) f _ [] (λ e. d (sym e));
     standing = refl;
   }
@@ -219,7 +215,7 @@ makes_stored h h₁ h₂ n bs m s = record {
   size = s.size ∙ m.size;
   bytes = λ i. elim (dec_lt i (length bs)) [
     | yes l ↦ ap (λ (k : ℕ). (made_at h₂.made (top_frame h) (next_in h)).byte k) (sym (zero-add i)) ∙ s.stored i l
-    | no l ↦ s.beside i (inr (omega arith)) ∙ m.bytes i ∙ sym (beyond bs i 0 (omega arith))
+    | no l ↦ s.beside i (inr (omega arith)) ∙ m.bytes i ∙ sym (get_or_past bs i 0 (omega arith))
   ];
   given = s.given ∙ m.given;
   others = λ j l. s.others j (λ e. omega arith) ∙ m.others j l;
@@ -235,7 +231,7 @@ allocation-told h m n e = sym (ok_inj (need-ok _ _ _ (need-ok _ _ _ (need-ok _ _
 -- the pointer that was given is the new allocation's
 given-new : (h : History) (n : ℕ) → StandsFor (next (allocation n) h) (length h.given) (of_place (top_frame h) (next_in h) 0)
 unfolding next
-given-new h n = (rw length_snoc (omega arith), get_or-append_seam h.given _ [] _)
+given-new h n = (rw length_push (omega arith), get_or-append_seam h.given _ [] _)
 
 begun-still : (h : History) (n : ℕ) → top_frame h < length h.made → top_frame h < length (next (allocation n) h).made
 unfolding next
@@ -280,7 +276,7 @@ allocation-went : (s : Machine History) (a : Answer History) (k p : ℕ) → (ch
     → (a ≡ ok (changes s (gave k) (a >>= λ m. ok (with_memory recalled s m))).machine.memory) × (p ≡ k)
 unfolding changes ◌>>=◌
 allocation-went s (ok m) k p e = (refl, cc)
-allocation-went s (refused n) k p e = absurd (let z : ◌≡◌ {A = ℕ} 0 1 = cc in omega arith)
+allocation-went s (refused n) k p e = absurd (false≢true cc)
 
 pub host_allocations_make : HostAllocationsMake
 unfolding ask host_allocate
@@ -292,7 +288,7 @@ host_allocations_make as' t n p d =
 -- ---- 7. frames
 
 top-is : (h : History) (st : List ℕ) (k : ℕ) → h.standing ≡ st ++ (k ∷ []) → top_frame h ≡ k
-top-is h st k s = rw s (ap (λ (i : ℕ). get_or (st ++ (k ∷ [])) i 0) (ap (λ (i : ℕ). i - 1) (length_snoc st k) ∙ omega arith) ∙ get_or-append_seam st k [] 0)
+top-is h st k s = rw s (ap (λ (i : ℕ). get_or (st ++ (k ∷ [])) i 0) (ap (λ (i : ℕ). i - 1) (length_push st k) ∙ omega arith) ∙ get_or-append_seam st k [] 0)
 
 -- an allocation in the frame that stands on top: `ms` were made in those before it, `made` in it, and `rest` in those after it
 made_on_top : (h : History) (n : ℕ) (ms : List (List Made)) (made : List Made) (rest : List (List Made)) → h.made ≡ ms ++ (made ∷ rest) → top_frame h ≡ length ms
@@ -324,7 +320,7 @@ slots-told (x ∷ xs) h h' vs vs' ms made rest st e s r =
       made₂ ∙ ap (λ (l : List Made). ms ++ (l ∷ rest)) (append_snoc made (zeros x.size) _),
       given₂ ∙ ap (λ (y : History). y.given ++ starts (length ms) (length (made ++ (zeros x.size ∷ []))) (length xs)) is
           ∙ ap (λ (l : List Target). l ++ starts (length ms) (length (made ++ (zeros x.size ∷ []))) (length xs)) given₁ ∙ append_snoc h.given (of_place (length ms) (length made) 0) _
-          ∙ ap (λ (k : ℕ). h.given ++ (of_place (length ms) (length made) 0 ∷ starts (length ms) k (length xs))) (length_snoc made (zeros x.size) ∙ omega arith),
+          ∙ ap (λ (k : ℕ). h.given ++ (of_place (length ms) (length made) 0 ∷ starts (length ms) k (length xs))) (length_push made (zeros x.size) ∙ omega arith),
     )
 
 -- a name that no frame that stands has
@@ -380,7 +376,7 @@ calls_begin as' t P to context f arguments return_pointer at d =
 start-went : (s : Machine History) (a : Answer (Machine History)) → (changes s done a).reply ≡ done → a ≡ ok (changes s done a).machine
 unfolding changes
 start-went s (ok s') e = refl
-start-went s (refused n) e = absurd (let z : ◌≡◌ {A = ℕ} 0 1 = cc in omega arith)
+start-went s (refused n) e = absurd (false≢true cc)
 
 -- comes to its slots, on a machine that is idle
 start_clause : (P : Program) (s s' : Machine History) (f : ℕ) (context : Value) (gs : List Value) → start recalled P f context gs s ≡ ok s'
@@ -474,14 +470,14 @@ module _ (s s' : Machine History) (v : Option Value) where
   goes_back : (b : Bool) (back : Back) (m : History) → leave recalled s v (pick b (some (back, m)) none) ≡ ok (went s') → s'.memory ≡ m
   unfolding leave
   goes_back true back m e = left-memory (subst (Keeps (Leaves m)) e (keeps-after (Leaves m) (set_returned s.vars back.var v) (λ vs. kept leaves)))
-  goes_back false back m e = absurd (let z : ◌≡◌ {A = ℕ} 0 1 = cc in omega arith)
+  goes_back false back m e = absurd (false≢true cc)
 
   run_ends : (w : Option Value) (b : Bool) (back : Back) (m : History) → leave recalled s v (pick b (some (back, m)) none) ≡ ok (ended w s') → s'.memory ≡ s.memory
   unfolding leave
   run_ends w true back m e = absurd (never (set_returned s.vars back.var v) e)
     where
       never : (a : Answer Vars) → (a >>= λ vs. ok (went (record { memory = m; running = true; place = back.place; vars = vs }))) ≡ ok (ended w s') → ⊥
-      never a e = let x = after-ok a e in let y = x.2 in let z : ◌≡◌ {A = ℕ} 0 1 = cc in omega arith
+      never a e = let x = after-ok a e in let y = x.2 in false≢true cc
   run_ends w false back m e = cc
 
 pub returns-end : ReturnsEnd

@@ -7,12 +7,13 @@ use mathlib.Core.Bool.{Bool, true, false, not, ◌&&◌}
 use mathlib.Core.Path.{◌≡◌, subst}
 use mathlib.Core.List.{List, [], ◌∷◌}
 use lib.ListN.{length}
-use lib.Dec.{T, ltb, lt→ltb, ltb→lt}
+use lib.Dec.{T, ltb, lt→ltb, ltb→lt, T_not}
 use lib.Ieee.{Format, binary32, binary64, top, of_bits}
 use lib.Ieee.Bits.{to_bits-lt}
 use lib.Ieee.Fits.{div-fits}
 use lib.IntN.{ℤ, pos, negsuc}
 use mir.Facts.{and_yes, yes_and}
+use Rattle.value.specs.declared.refusal.Refusal.{Refusal}
 use Rattle.value.specs.Answer.{Answer, ok, refused, need, ◌>>=◌, pick}
 use Rattle.value.specs.Value.{Value, value, Kind, bool, u8, u16, u32, u64, i8, i16, i32, i64, f32, f64, char, asn, pointer, IrType, Boolean, U8, U16, U32, U64, I8, I16, I32, I64, F32, F64, Pointer, kind_of, tag, same, width, Family, unsigned, signed, floating, neither, family, is_float, format_of, truth, integer, bits_of, within, checked, Operation, add, sub, mul, div, mod', operate, arithmetic, divide_floats, negate_as, negated, notted, Test, passes, real, reals, naturals, integers, equality, unsigned_order, signed_order, float_order, IntCmp, Eq, Ne, ULt, ULe, UGt, UGe, SLt, SLe, SGt, SGe, FloatCmp, FEq, FNe, FLt, FLe, FGt, FGe, compare_ints, compare_floats, size, le_bytes, le_number, bytes_of, from_bytes}
 use Rattle.value.specs.Divide.{divide_bits}
@@ -24,9 +25,9 @@ use Rattle.machine.specs.Sound.{all, are_bytes}
 
 pub data Keeps {A : Type 0} (Q : A → Type 0) : Answer A → Type 0 where
   kept : {a : A} → Q a → Keeps Q (ok a)
-  no_answer : {n : ℕ} → Keeps Q (refused n)
+  no_answer : {n : Refusal} → Keeps Q (refused n)
 
-pub keeps-need : {A : Type 0} (Q : A → Type 0) (b : Bool) (n : ℕ) {a : Answer A} → (T b → Keeps Q a) → Keeps Q (need b n a)
+pub keeps-need : {A : Type 0} (Q : A → Type 0) (b : Bool) (n : Refusal) {a : Answer A} → (T b → Keeps Q a) → Keeps Q (need b n a)
 unfolding need
 keeps-need Q true n k = k tt
 keeps-need Q false n k = no_answer
@@ -227,13 +228,9 @@ pub stored_bytes : (v : Value) → T (are_bytes (bytes_of v))
 unfolding bytes_of
 stored_bytes v = are-bytes (size v.kind) v.bits
 
-not-both : (x : Bool) → T (not x) → T x → ⊥
-not-both true u t = u
-not-both false u t = t
-
 read_at_lem : (t : IrType) (b : ℕ) → b < 256 ^ size (kind_of t) → T (not (same (kind_of t) bool && ltb 1 b)) → Good (value (kind_of t) b)
 unfolding holds kind_of size tag
-read_at_lem Boolean b l u = lt→ltb b 2 (elim (dec_lt b 2) [ yes h ↦ h | no n ↦ absurd (not-both (ltb 1 b) u (lt→ltb 1 b (omega arith))) ])
+read_at_lem Boolean b l u = lt→ltb b 2 (elim (dec_lt b 2) [ yes h ↦ h | no n ↦ absurd (T_not (ltb 1 b) u (lt→ltb 1 b (omega arith))) ])
 read_at_lem U8 b l u = lt→ltb b (2 ^ 8) l
 read_at_lem U16 b l u = lt→ltb b (2 ^ 16) l
 read_at_lem U32 b l u = lt→ltb b (2 ^ 32) l

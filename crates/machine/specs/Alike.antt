@@ -1,13 +1,14 @@
 -- When two memories are alike under a relation: whatever the machine asks of both, they refuse alike, or answer alike.
 use Rattle.std.specs.Prelude.{ℕ, ◌≡◌, List}
 use Rattle.std.proofs.Math.Option.{Option, none, some}
+use Rattle.value.specs.declared.refusal.Refusal.{Refusal}
 use Rattle.value.specs.Answer.{Answer, ok, refused}
 use Rattle.memory.specs.Memory.{Back}
 use Rattle.machine.specs.Machine.{Memories}
 
 pub data Alike {A B : Type 0} (R : A → B → Type 0) : Answer A → Answer B → Type 0 where
   both_ok : {a : A} {b : B} → R a b → Alike R (ok a) (ok b)
-  both-refused : {n : ℕ} → Alike R (refused n) (refused n)
+  both-refused : {n : Refusal} → Alike R (refused n) (refused n)
 
 -- both are at the root, or both went back alike
 pub data BackAlike {A B : Type 0} (R : A → B → Type 0) : Option (Back × A) → Option (Back × B) → Type 0 where

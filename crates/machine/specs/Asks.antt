@@ -1,6 +1,7 @@
 -- What the host may ask of a machine, in any order, each time with any program, and what it is answered.
 use Rattle.std.specs.Prelude.{ℕ, List, [], ◌∷◌}
 use Rattle.std.proofs.Math.Option.{Option}
+use Rattle.value.specs.declared.refusal.Refusal.{Refusal}
 use Rattle.value.specs.Answer.{Answer, ok, refused}
 use Rattle.value.specs.Value.{Value}
 use Rattle.image.specs.Program.{Program}
@@ -23,7 +24,7 @@ pub data Reply : Type 0 where
   returned : Option Value → Reply
   ran : Outcome → (count : ℕ) → Reply
   lists : List Live → Reply
-  refusal : (number : ℕ) → Reply
+  refusal : Refusal → Reply
 
 -- a reply, and the machine afterwards
 pub record Turn (M : Type 0) : Type 0 where

@@ -4,7 +4,7 @@ use Rattle.std.specs.Prelude.{ℕ, Bool, true, false, ◌&&◌, List, [], ◌∷
 use Rattle.std.proofs.Math.Option.{Option, none, some}
 use Rattle.value.specs.Answer.{Answer, ok, refused, ◌>>=◌}
 use Rattle.value.specs.Cases as Numbered
-use Rattle.value.specs.Refusal.{never_set, wrong_kinds, outside_width, frame_gone, beyond_length, misaligned, not_bool, no_return_place, bytes_exceed_size, no_instruction}
+use Rattle.value.specs.Refusal.{never_set, wrong_kinds, outside_width, frame_gone, beyond_length, misaligned, not_bool, no_return_place, bytes_exceed_size, no_instruction, number_of}
 use Rattle.value.specs.Value.{Value, value, Eq, ULt, FLt, FGt, IrType, bool, u8, u32, u64, i8, f32, f64, pointer, tag}
 use Rattle.image.specs.Program.{Program, Operand, variable, literal, Slot, Item, Function, Instruction, Jump, Switch, Assign, ConstantAddress, Call, Return, IntCmp', FloatCmp', Add, Sub, Mul, Div, Mod, FDiv, Not, Negate, Offset, Initialize, Write, Read, Copy, Drop}
 use Rattle.image.specs.Image.{loaded}
@@ -36,7 +36,7 @@ same_outcome paused paused = true
 same_outcome paused (stopped n) = false
 same_outcome (stopped m) (returned w) = false
 same_outcome (stopped m) paused = false
-same_outcome (stopped m) (stopped n) = eqb m n
+same_outcome (stopped m) (stopped n) = eqb (number_of m) (number_of n)
 
 unfoldable pub ran : {M : Type 0} → Case → Answer (Ran M) → Bool
 ran c (ok r) = same_outcome r.outcome c.outcome && eqb r.count c.count

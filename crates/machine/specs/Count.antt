@@ -1,6 +1,7 @@
 -- "the count is the number of definition steps taken"
 use Rattle.std.specs.Prelude.{ℕ, suc, ◌+◌, ◌<◌, ◌≡◌}
 use Rattle.std.proofs.Math.Option.{Option}
+use Rattle.value.specs.declared.refusal.Refusal.{Refusal}
 use Rattle.value.specs.Answer.{ok, refused}
 use Rattle.value.specs.Value.{Value}
 use Rattle.image.specs.Program.{Program}
@@ -17,5 +18,5 @@ module _ {M : Type 0} (mem : Memories M) (P : Program) where
     pauses : {s' : Machine M} → Took budget s s' → Means budget s (record { outcome = paused; count = budget; machine = s' })
     returns : {n : ℕ} {s' s'' : Machine M} {v : Option Value} → n < budget → Took n s s' → step mem P s' ≡ ok (ended v s'')
         → Means budget s (record { outcome = returned v; count = n + 1; machine = s'' })
-    refuses : {n k : ℕ} {s' : Machine M} → n < budget → Took n s s' → step mem P s' ≡ refused k
+    refuses : {n : ℕ} {k : Refusal} {s' : Machine M} → n < budget → Took n s s' → step mem P s' ≡ refused k
         → Means budget s (record { outcome = stopped k; count = n; machine = s' })

@@ -8,6 +8,7 @@ use Rattle.std.specs.Prelude.{ℕ, ◌+◌, ◌≤◌, ◌<◌, ◌≢◌, ◌�
 use Rattle.std.specs.Int.{◌∣◌}
 use Rattle.std.proofs.Math.Option.{Option, some}
 use Rattle.std.proofs.Math.ListN.{get_elem?}
+use Rattle.value.specs.declared.refusal.Refusal.{Refusal}
 use Rattle.value.specs.Refusal.{not_given_out, frame_gone, beyond_length, misaligned, not_bool, no_constant}
 use Rattle.value.specs.Answer.{ok, refused}
 use Rattle.value.specs.Value.{Value, value, pointer, IrType, kind_of, size, bytes_of, from_bytes}
@@ -72,7 +73,7 @@ BytesOfConstants = (as' : List Ask) → Accepted as' → (P : Program) (p n k : 
 
 -- ---- 3. and with which number the others are refused
 
-pub data Why (h : History) (P : Program) (p n : ℕ) : (number : ℕ) → Type 0 where
+pub data Why (h : History) (P : Program) (p n : ℕ) : Refusal → Type 0 where
   never_given : length h.given ≤ p → Why h P p n not_given_out
   ended : {f j o : ℕ} → StandsFor h p (of_place f j o) → Ended h f → Why h P p n frame_gone
   too_long : {f j o : ℕ} → StandsFor h p (of_place f j o) → Open h f → (made_at h.made f j).size < o + n → Why h P p n beyond_length
@@ -81,7 +82,7 @@ pub data Why (h : History) (P : Program) (p n : ℕ) : (number : ℕ) → Type 0
   past-constant : {k : ℕ} → StandsFor h p (of_constant k) → k < length P.constants → length (get_or P.constants k []) < n → Why h P p n beyond_length
 
 abbrev pub RefusedWithItsNumber : Type 0
-RefusedWithItsNumber = (as' : List Ask) → Accepted as' → (P : Program) (p n k : ℕ) → (reply as' P p n ≡ refusal k) ↔ Why (tells as') P p n k
+RefusedWithItsNumber = (as' : List Ask) → Accepted as' → (P : Program) (p n : ℕ) (k : Refusal) → (reply as' P p n ≡ refusal k) ↔ Why (tells as') P p n k
 
 -- 27 is given exactly where the frame has returned
 abbrev pub GoneExactlyWhenEnded : Type 0
@@ -135,8 +136,8 @@ stepped as' P = enter (to_step P) (state_after as')
 -- a Read is refused with no number, or with 31 alone, exactly when the host's read would be granted; every other number is the host's
 abbrev pub StepsGrantedExactlyWhenRight : Type 0
 StepsGrantedExactlyWhenRight = (as' : List Ask) → Accepted as' → (P : Program) (to : ℕ) (type : IrType) (p : ℕ) → AtRead (state_after as') P to type p
-    → (((k : ℕ) → (stepped as' P).reply ≡ refusal k → k ≡ not_bool) ↔ Right (tells as') P p (size (kind_of type)))
-    × ((k : ℕ) → k ≢ not_bool → ((stepped as' P).reply ≡ refusal k) ↔ Why (tells as') P p (size (kind_of type)) k)
+    → (((k : Refusal) → (stepped as' P).reply ≡ refusal k → k ≡ not_bool) ↔ Right (tells as') P p (size (kind_of type)))
+    × ((k : Refusal) → k ≢ not_bool → ((stepped as' P).reply ≡ refusal k) ↔ Why (tells as') P p (size (kind_of type)) k)
 
 -- and its value is made of the bytes last stored
 abbrev pub StepsReadLastStored : Type 0
@@ -146,7 +147,7 @@ StepsReadLastStored = (as' : List Ask) → Accepted as' → (P : Program) (to : 
 
 -- a Copy is refused as the host's read would be
 abbrev pub CopiesRefused : Type 0
-CopiesRefused = (as' : List Ask) → Accepted as' → (P : Program) (q p n k : ℕ) → AtCopy (state_after as') P q p n → Why (tells as') P p n k → (stepped as' P).reply ≡ refusal k
+CopiesRefused = (as' : List Ask) → Accepted as' → (P : Program) (q p n : ℕ) (k : Refusal) → AtCopy (state_after as') P q p n → Why (tells as') P p n k → (stepped as' P).reply ≡ refusal k
 
 -- and writes the bytes last stored
 abbrev pub CopiesLastStored : Type 0

@@ -3,6 +3,7 @@
 use Rattle.std.specs.Prelude.{ℕ, zero, suc, ◌+◌, Bool, true, false, not, ◌&&◌, List, [], ◌∷◌, length, ltb, leb, eqb}
 use Rattle.std.proofs.Math.Option.{Option, none, some}
 use Rattle.std.proofs.Math.ListN.{get_elem?}
+use Rattle.value.specs.declared.refusal.Refusal.{Refusal}
 use Rattle.value.specs.Refusal as Refusal
 use Rattle.value.specs.Answer.{Answer, ok, refused, need, found, pick, ◌>>=◌}
 use Rattle.memory.specs.Live.{Live}
@@ -125,7 +126,7 @@ pub data Stepped (M : Type 0) : Type 0 where
 pub data Outcome : Type 0 where
   returned : Option Value → Outcome
   paused : Outcome
-  stopped : (number : ℕ) → Outcome
+  stopped : Refusal → Outcome
 
 pub record Ran (M : Type 0) : Type 0 where
   pub outcome : Outcome

@@ -2,6 +2,7 @@
 -- cases from fresh memory cannot show.
 use Rattle.std.specs.Prelude.{ℕ, zero, suc, ◌-◌, ◌^◌, true, List, [], ◌∷◌, replicate}
 use Rattle.std.proofs.Math.Option.{Option, none, some}
+use Rattle.value.specs.declared.refusal.Refusal.{Refusal}
 use Rattle.value.specs.Refusal.{not_sound, through_constant, frame_gone, beyond_length, offset_too_large, bytes_exceed_size, frames_full, ids_spent, allocations_full, bytes_full, pointers_full}
 use Rattle.value.specs.Value.{Value, value, u8, pointer, IrType}
 use Rattle.image.specs.Program.{Program, variable, literal, Instruction, Call, Return, Offset, Initialize, Read}
@@ -81,10 +82,10 @@ abbrev pub kept : Option Value
 kept = some (value u8 5)
 
 -- a step at an instruction, refused
-abbrev pub refuses : Machine Memory → Program → (number : ℕ) → Order
+abbrev pub refuses : Machine Memory → Program → Refusal → Order
 refuses s P n = order s (to_step P ∷ []) (refusal n ∷ []) kept
 
-abbrev pub allocates : Machine Memory → (size number : ℕ) → Order
+abbrev pub allocates : Machine Memory → (size : ℕ) → Refusal → Order
 allocates s n k = order s (to_allocate n ∷ []) (refusal k ∷ []) kept
 
 unfoldable pub orders : List Order

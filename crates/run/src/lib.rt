@@ -10,19 +10,18 @@ use instruction::step::Progress;
 use instruction::variables::Found;
 use memory::Registers;
 use step::step_at;
+use value::refusal::Refusal;
 
-// What a run answers, with the count of its steps: returned a value or none (tag 0), paused, or stopped by a refused instruction.
-// Refused and NotLoaded are the entry's, before any step.
-#[derive(Clone, Copy)]
+// What a run answers, with the count of its steps: returned a value or none, paused, or stopped by a refused instruction.
+#[derive(Clone, Copy, Debug, PartialEq, Eq)]
 pub enum Ran {
-    Returned(Registers, Found, u64),
+    Returned(Registers, Option<Found>, u64),
     Paused(Registers, u64),
-    Stopped(Registers, u64, u64),
-    Refused(u64),
-    NotLoaded(u64, usize),
+    Stopped(Registers, Refusal, u64),
 }
 
 // "Before each instruction: if steps done equal the budget, it is paused."
+#[tactic(auto, using(crate::proofs::Turns::next_of, crate::proofs::Turns::paused_of))]
 pub fn run_steps(
     m: Registers,
     budget: u64,
@@ -40,19 +39,15 @@ pub fn run_steps(
     ensures { running result store.new frames.new bounds.new pointers.new vars.new ≡ ran_of (items image.now places.now labels.now functions.now extents.now) budget 0 (state (tables m store.old frames.old bounds.old pointers.old) vars.old) }
 {
     let mut here = m;
-    let mut done = 0u64;
-    while done < budget {
+    for done in 0..budget {
         let next = step_at(
             here, image, places, labels, functions, extents, store, frames, bounds, pointers, vars,
         );
         match next {
-            Progress::Next(n) => {
-                here = n;
-                done += 1;
-            }
-            Progress::Ended(n, v) => return Ran::Returned(n, v, done + 1),
-            Progress::Refused(number) => return Ran::Stopped(here, number, done),
+            Ok(Progress::Next(n)) => here = n,
+            Ok(Progress::Ended(n, v)) => return Ran::Returned(n, v, done + 1),
+            Err(why) => return Ran::Stopped(here, why, done),
         }
     }
-    Ran::Paused(here, done)
+    Ran::Paused(here, budget)
 }

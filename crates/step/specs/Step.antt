@@ -1,5 +1,6 @@
 -- What one step of the code makes of registers and tables: the instruction at the next place, by its opcode.
-use Rattle.std.specs.Prelude.{ℕ, ◌+◌, length, get_or, leb, eqb}
+use Rattle.std.specs.Prelude.{ℕ, ◌+◌, length, get_or, leb, eqb, Result, Ok, Err}
+use Rattle.value.specs.declared.refusal.Refusal.{Refusal}
 use Rattle.value.specs.Answer.{pick}
 use Rattle.value.specs.Refusal.{no_instruction}
 use Rattle.memory.specs.declared.Registers.{Registers}
@@ -8,19 +9,19 @@ use Rattle.instruction.specs.Decode.{field_at}
 use Rattle.instruction.specs.Code.{Stepped, stepped, with_next, jumped_of, switched_of, assigned_of, combined_of, changed_of}
 use Rattle.instruction.specs.Storage.{Pointed, addressed_of, offsetted_of, returned_of, write_of, reading_of, initialized_of, copying_of}
 use Rattle.instruction.specs.declared.step.Progress.{Progress}
-use Rattle.instruction.specs.declared.step.Progress.TheVariants.{Next, Refused}
+use Rattle.instruction.specs.declared.step.Progress.TheVariants.{Next}
 use Rattle.calls.specs.Code.{called_of}
 use Rattle.step.specs.Items.{Items}
 
 -- ---- an answer, with the tables that changed and the others as they were
 
-abbrev pub unchanged : State → Progress → Stepped
+abbrev pub unchanged : State → (Result Progress Refusal) → Stepped
 unchanged t r = stepped r t.memory.store t.memory.frames t.memory.bounds t.memory.pointers t.variables
 
-abbrev pub with_variables : State → Both Progress → Stepped
+abbrev pub with_variables : State → Both (Result Progress Refusal) → Stepped
 with_variables t r = stepped r.answer t.memory.store t.memory.frames t.memory.bounds t.memory.pointers r.table
 
-abbrev pub with_store : State → Both Progress → Stepped
+abbrev pub with_store : State → Both (Result Progress Refusal) → Stepped
 with_store t r = stepped r.answer r.table t.memory.frames t.memory.bounds t.memory.pointers t.variables
 
 abbrev pub with_pointers : State → Pointed → Stepped
@@ -54,11 +55,11 @@ dispatched i t n at =
     (pick (eqb n 18) (with_store t (write_of (moved t.memory) s vs at))
     (pick (eqb n 19) (with_variables t (reading_of (moved t.memory) s i.extents vs at))
     (pick (eqb n 20) (with_store t (copying_of (moved t.memory) s i.extents vs at))
-    (pick (eqb n 21) (unchanged t (Next m)) (unchanged t (Refused no_instruction)))))))))))))))
+    (pick (eqb n 21) (unchanged t (Ok (Next m))) (unchanged t (Err no_instruction)))))))))))))))
 
 -- "20 no instruction at this place"
 unfoldable pub stepped_of : Items → State → Stepped
 stepped_of i t =
     let place = t.memory.registers.next in
     let opcode = field_at i.bytes (get_or i.places place 0) in
-    pick (leb (length i.places) place) (unchanged t (Refused no_instruction)) (dispatched i t opcode.value opcode.next)
+    pick (leb (length i.places) place) (unchanged t (Err no_instruction)) (dispatched i t opcode.value opcode.next)

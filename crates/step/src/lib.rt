@@ -14,17 +14,16 @@ use instruction::pointer::{address, offset};
 use instruction::step::{Progress, assign, change, combine, jump, switch};
 use instruction::storage::{copy, initialize, read, write};
 use memory::Registers;
-use value::refusal::NO_INSTRUCTION;
+use value::refusal::Refusal;
 
 // The registers with this next place. Each instruction makes its own, so that none is kept in memory for the others.
 fn with_next(m: Registers, place: usize) -> Registers
     ensures { result ≡ with_next m place }
 {
-    let mut n = m;
-    n.next = place;
-    n
+    Registers { next: place, ..m }
 }
 
+#[tactic(auto, unfolding(crate::specs::Step::stepped_of, crate::specs::Step::dispatched))]
 pub fn step_at(
     m: Registers,
     image: &[u8],
@@ -37,12 +36,12 @@ pub fn step_at(
     bounds: &mut [u64],
     pointers: &mut [u64],
     vars: &mut [u64],
-) -> Progress
+) -> Result<Progress, Refusal>
     ensures { stepped result store.new frames.new bounds.new pointers.new vars.new ≡ stepped_of (items image.now places.now labels.now functions.now extents.now) (state (tables m store.old frames.old bounds.old pointers.old) vars.old) }
 {
     let k = m.next;
     if places.len() <= k {
-        return Progress::Refused(NO_INSTRUCTION);
+        return Err(Refusal::NoInstruction);
     }
     let field = read_field(image, places[k]);
     let opcode = field.value;
@@ -111,7 +110,7 @@ pub fn step_at(
             pointers,
             vars,
         ),
-        21 => Progress::Next(with_next(m, next)),
-        _ => Progress::Refused(NO_INSTRUCTION),
+        21 => Ok(Progress::Next(with_next(m, next))),
+        _ => Err(Refusal::NoInstruction),
     }
 }

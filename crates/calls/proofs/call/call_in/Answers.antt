@@ -1,18 +1,19 @@
--- `call::call_in` meets its contract: its calls, one after another, by cases of what the variables' part answered.
-use mathlib.Core.Path.{sym, ◌∙◌}
-use borrow.Author.Tests.{ne_eqb}
-use Rattle.calls.specs.Code.{called_in}
-use Rattle.calls.proofs.Rooms.{call_room_given}
-use Rattle.calls.proofs.Enters.{call_on, call_stop}
-use Rattle.calls.proofs.Sure.{all_room}
+-- A Call with room: the variables first, then the frame and the slots; each refusal is the definition's.
+use Rattle.std.proofs.Common.{rules, ◌≡◌, Err}
+use Rattle.std.specs.Prelude.{Err}
+use mathlib.Core.Path.{◌≡◌}
+use Rattle.calls.proofs.Enters.{call_made, call_full, call_stop}
 use Rattle.calls.proofs.call.call_in.Goals as goal
 
-pub returns-then-no-ne0 : goal.returns-then-no-ne0
-unfolding called_in
-returns-then-no-ne0 c = simp (← c.call_room-no.ensures, ne_eqb _ _ c.if-no-ne0.true)
+pub returns-in_err-set_all : goal.returns-in_err-set_all
+returns-in_err-set_all c =
+    let is : c.from_residual-in_err-set_all.result ≡ Err c.in_err-set_all.field-0.0 = search rules in
+    rw is (call_stop _ _ _ _ _ _ _ _ (c.in_ok-call_room.ensures, c.in_err-set_all.ensures))
 
-pub returns-in-Done : goal.returns-in-Done
-returns-in-Done c = call_on _ _ _ _ _ _ (sym c.call_room-no.ensures ∙ c.if-no-ne0.false) _ _ (c.set_all.ensures ∙ all_room _ _ _ _ (call_room_given _ _ _ _ _ _ _ (sym c.call_room-no.ensures ∙ c.if-no-ne0.false))) _ _ c.in-Done.is c.enter.ensures c.arrive.ensures
+pub returns-in_err-inside : goal.returns-in_err-inside
+returns-in_err-inside c =
+    let is : c.from_residual-in_err-inside.result ≡ Err c.in_err-inside.field-0.0 = search rules in
+    rw is (call_full _ _ _ _ _ _ _ _ _ _ _ _ (c.in_ok-call_room.ensures, c.in_ok-set_all.ensures) c.in_err-inside.ensures)
 
-pub returns-in-Refused : goal.returns-in-Refused
-returns-in-Refused c = call_stop _ _ _ _ _ _ (sym c.call_room-no.ensures ∙ c.if-no-ne0.false) _ _ (c.set_all.ensures ∙ all_room _ _ _ _ (call_room_given _ _ _ _ _ _ _ (sym c.call_room-no.ensures ∙ c.if-no-ne0.false))) _ c.in-Refused.is
+pub returns : goal.returns
+returns c = call_made _ _ _ _ _ _ _ _ _ _ _ _ (c.in_ok-call_room.ensures, c.in_ok-set_all.ensures) c.in_ok-inside.ensures

@@ -1,14 +1,8 @@
--- `extents::extents_of` meets its contract: after k constants the first k pairs are there.
+-- `entry::extents_of` meets its contract: after k constants the first k pairs are there.
 use native.Mathlib.Omega.{arith}
-use mathlib.Core.Path.{refl}
 use lib.ListN.{length-set}
-use Rattle.decode.specs.Extents.{extents_at}
-use Rattle.eval.proofs.Constants.{extents-more}
+use Rattle.eval.proofs.Constants.{extents_more}
 use Rattle.eval.proofs.entry.extents_of.Goals as goal
 
-pub loop-k-init : goal.loop-k-init
-unfolding extents_at
-loop-k-init c = (omega arith, refl, refl)
-
 pub loop-k-preserved : goal.loop-k-preserved
-loop-k-preserved c = (omega arith, simp length-set c.loop-k.invariant.1, extents-more c.args.image.now c.args.constants.now c.loop-k.extents c.loop-k.k _ (omega arith) (omega arith) c.extent_at-extent.ensures c.loop-k.invariant.2)
+loop-k-preserved c = (simp length-set c.loop-k.invariant.0, extents_more _ _ _ _ _ c.loop-k-test.true (omega arith) c.extent_at-extent.ensures c.loop-k.invariant.1)
