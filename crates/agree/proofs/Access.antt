@@ -1,4 +1,5 @@
 -- Write, Read and Copy agree with the believed machine, by the memory's own theorems of what it reads and writes.
+use Rattle.std.specs.Prelude.{Result, Ok, Err, ⊤}
 use Prim.Native.Nat.{ℕ, ◌<◌}
 use native.Mathlib.Omega.{arith}
 use mathlib.Core.Path.{◌≡◌, refl, sym, ap, ap₂, ◌∙◌, subst}
@@ -7,6 +8,8 @@ use mathlib.Core.Option.{some}
 use lib.ListN.{length, replicate, length-replicate}
 use lib.Dec.{T}
 use borrow.Author.Tests.{eq-eqb}
+use Rattle.std.proofs.lemmas.Bool.{false≢true}
+use Rattle.value.specs.declared.refusal.Refusal.{Refusal}
 use Rattle.value.specs.Answer.{Answer, ok, refused, ◌>>=◌}
 use Rattle.value.specs.Value.{Value, IrType, Boolean, U8, U16, U32, U64, I8, I16, I32, I64, F32, F64, Pointer, kind_of, size, bytes_of, from_bytes}
 use Rattle.value.specs.Tags.{type_at, type_of_kind, typed}
@@ -17,10 +20,6 @@ use Rattle.image.specs.Written as W
 use Rattle.memory.specs.Memory.{Memory, read_bytes, write_bytes}
 use Rattle.memory.specs.Tables.{Tables, Both, both, tables, State, state, write_access_of, put_at, written_of, read_of, written_next, copied_of}
 use Rattle.memory.specs.View.{view, variables_in, constants_in, on_outcome, after_write, after_read}
-use Rattle.memory.specs.declared.Place.{Place}
-use Rattle.memory.specs.declared.Place.TheVariants as place
-use Rattle.memory.specs.declared.Outcome.{Outcome}
-use Rattle.memory.specs.declared.Outcome.TheVariants as outcome
 use Rattle.memory.proofs.Facts.{Sound}
 use Rattle.memory.proofs.Bytes.{store_tables}
 use Rattle.memory.proofs.Access.{Extents, write_view, write-sound, read_view}
@@ -34,7 +33,6 @@ use Rattle.instruction.specs.Compute.{found_of}
 use Rattle.instruction.specs.Code.{finished_of}
 use Rattle.instruction.specs.Storage.{went_on, stored_by, stored_of, write_of, value_in, read_as, read_by, reading_of, copying_of}
 use Rattle.instruction.specs.declared.step.Progress.{Progress}
-use Rattle.instruction.specs.declared.step.Progress.TheVariants.{Refused}
 use Rattle.calls.proofs.CallAgrees.{moved-sound, moved-seen}
 use Rattle.calls.proofs.VariablesAgree.{read_next}
 use Rattle.agree.specs.Seen.{seen, Agrees}
@@ -55,26 +53,26 @@ abbrev with_store_lem : State → List ℕ → State
 with_store_lem s store = state (tables s.memory.registers store s.memory.frames s.memory.bounds s.memory.pointers) s.variables
 
 -- an instruction that changes nothing but the store
-abbrev pub StoreAgrees : State → Both Progress → Answer (Stepped Memory) → Type 0
+abbrev pub StoreAgrees : State → Both (Result Progress Refusal) → Answer (Stepped Memory) → Type 0
 StoreAgrees s b x = Agrees s b.answer (λ m. state (tables m b.table s.memory.frames s.memory.bounds s.memory.pointers) s.variables) x
 
-put-bytes : (p : Place) (store bytes : List ℕ) → AreBytes store → AreBytes bytes → AreBytes (put_at p store bytes).table
-put-bytes (place.At at) store bytes f g = paste_bytes store at bytes (length bytes) f g
-put-bytes (place.Refused n) store bytes f g = f
+put-bytes : (p : Result ℕ Refusal) (store bytes : List ℕ) → AreBytes store → AreBytes bytes → AreBytes (put_at p store bytes).table
+put-bytes (Ok at) store bytes f g = paste_bytes store at bytes (length bytes) f g
+put-bytes (Err n) store bytes f g = f
 
 pub written-bytes : (t : Tables) (p : ℕ) (bytes : List ℕ) → AreBytes t.store → AreBytes bytes → AreBytes (written_of t p bytes).table
 unfolding written_of
 written-bytes t p bytes f g = put-bytes (write_access_of t p (length bytes)) t.store bytes f g
 
-never_refused : {n : ℕ} → outcome.Done ≡ outcome.Refused n → ⊥
-never_refused e = let z : ◌≡◌ {A = ℕ} 0 1 = cc in omega arith
+never_refused : {n : Refusal} → ◌≡◌ {A = Result ⊤ Refusal} (Ok tt) (Err n) → ⊥
+never_refused e = false≢true cc
 
-put-left : (p : Place) (store bytes : List ℕ) (n : ℕ) → (put_at p store bytes).answer ≡ outcome.Refused n → (put_at p store bytes).table ≡ store
-put-left (place.At at) store bytes n e = absurd (never_refused e)
-put-left (place.Refused m) store bytes n e = refl
+put-left : (p : Result ℕ Refusal) (store bytes : List ℕ) (n : Refusal) → (put_at p store bytes).answer ≡ Err n → (put_at p store bytes).table ≡ store
+put-left (Ok at) store bytes n e = absurd (never_refused e)
+put-left (Err m) store bytes n e = refl
 
 -- what is not written leaves the store as it stood
-pub written-left : (t : Tables) (p : ℕ) (bytes : List ℕ) (n : ℕ) → (written_of t p bytes).answer ≡ outcome.Refused n → (written_of t p bytes).table ≡ t.store
+pub written-left : (t : Tables) (p : ℕ) (bytes : List ℕ) (n : Refusal) → (written_of t p bytes).answer ≡ Err n → (written_of t p bytes).table ≡ t.store
 unfolding written_of
 written-left t p bytes = put-left (write_access_of t p (length bytes)) t.store bytes
 
@@ -83,13 +81,13 @@ module _ (s : State) (st : Steady s) (room : s.memory.registers.next < 4096) whe
   sound_ahead = moved-sound s.memory _ _ st.memory
 
   -- where the memory's answer is the believed one, its store is sound, and a refusal leaves it as it stood
-  put_agrees : (a : Outcome) (store : List ℕ) (x : Answer Memory) → on_outcome a (view (store_tables (ahead s) store)) ≡ x → (a ≡ outcome.Done → Sound (store_tables (ahead s) store))
-      → AreBytes store → ((n : ℕ) → a ≡ outcome.Refused n → store ≡ s.memory.store) → StoreAgrees s (went_on (onward s) (both a store)) (x >>= λ m. Machine.onward believed (seen s) m (variables_in s.variables))
+  put_agrees : (a : Result ⊤ Refusal) (store : List ℕ) (x : Answer Memory) → on_outcome a (view (store_tables (ahead s) store)) ≡ x → (a ≡ Ok tt → Sound (store_tables (ahead s) store))
+      → AreBytes store → ((n : Refusal) → a ≡ Err n → store ≡ s.memory.store) → StoreAgrees s (went_on (onward s) (both a store)) (x >>= λ m. Machine.onward believed (seen s) m (variables_in s.variables))
   unfolding ◌>>=◌
-  put_agrees outcome.Done store x e so bytes left =
+  put_agrees (Ok u) store x e so bytes left =
       rw (sym e)
       (record { same = went-same refl (eq-eqb _ 1 st.running) refl refl; kept = runs _ _ (so refl) st.variables st.running (omega arith) bytes })
-  put_agrees (outcome.Refused n) store x e so bytes left = rw (sym e) (refusal (ap (with_store_lem s) (left n refl)))
+  put_agrees (Err n) store x e so bytes left = rw (sym e) (refusal (ap (with_store_lem s) (left n refl)))
 
   -- bytes through pointer p
   written_agrees : (p : ℕ) (bytes : List ℕ) → AreBytes bytes
@@ -119,7 +117,7 @@ module _ (s : State) (st : Steady s) (room : s.memory.registers.next < 4096) whe
       let (k₁, e₁, p₁, h₁) = operand-stands image at x (W.operand y) e p h in
       let (k₂, e₂, p₂) = operand-last image k₁ y e p₁ h₁ in
       rw (e₁, read_next x k₁, e₂, operand-found s.variables st.variables x k₁ p₁ f, operand-found s.variables st.variables y k₂ p₂ g)
-      (reached (StoreAgrees s) (λ n. both (Refused n) s.memory.store) (λ q. went_on (onward s) (stored_of (ahead s) q (found_of (value_of (variables_in s.variables) y)))) _
+      (reached (StoreAgrees s) (λ n. both (Err n) s.memory.store) (λ q. went_on (onward s) (stored_of (ahead s) q (found_of (value_of (variables_in s.variables) y)))) _
       (λ n. refusal refl) (λ q. stored_agrees q (value_of (variables_in s.variables) y) (operand-good s.variables st.variables y g))
       (value_of (variables_in s.variables) x) (operand-good s.variables st.variables x f))
 
@@ -150,10 +148,10 @@ pub record Constants (P : Program) (image extents : List ℕ) : Type 0 where
   pub shown : constants_in image extents ≡ P.constants
   pub bytes : T (all are_bytes P.constants)
 
-value_read : (t : IrType) (a : Outcome) (bytes : List ℕ) → value_in t a bytes ≡ (on_outcome a bytes >>= from_bytes t)
+value_read : (t : IrType) (a : Result ⊤ Refusal) (bytes : List ℕ) → value_in t a bytes ≡ (on_outcome a bytes >>= from_bytes t)
 unfolding ◌>>=◌
-value_read t outcome.Done bytes = refl
-value_read t (outcome.Refused n) bytes = refl
+value_read t (Ok u) bytes = refl
+value_read t (Err n) bytes = refl
 
 module _ (s : State) (st : Steady s) (room : s.memory.registers.next < 4096) (image extents : List ℕ) (P : Program) (c : Constants P image extents) where
   -- n bytes through pointer p
@@ -188,22 +186,22 @@ module _ (s : State) (st : Steady s) (room : s.memory.registers.next < 4096) (im
       let (k₂, e₂, p₂, h₂) = operand-stands image k₁ x (W.number (type_number t)) e p₁ h₁ in
       let (k₃, e₃, p₃, h₃) = field-stands image k₂ (type_number t) [] e p₂ h₂ in
       rw (e₁, e₂, read_next x k₂, e₃, type_of_number t, operand-found s.variables st.variables x k₂ p₂ f)
-      (reached (VariablesAgree s) (λ n. both (Refused n) s.variables)
+      (reached (VariablesAgree s) (λ n. both (Err n) s.variables)
       (λ q. finished_of (onward s) s.variables to (found_of (read_by (ahead s) q (some t) image extents))) _
       (λ n. refusal refl) (reading_agrees to l t)
       (value_of (variables_in s.variables) x) (operand-good s.variables st.variables x f))
 
   -- ---- bytes are read and written
 
-  next_agrees : (p n : ℕ) (a : Outcome) (bytes : List ℕ) (x : Answer (List ℕ)) → on_outcome a bytes ≡ x → Keeps (Bytes n) x
+  next_agrees : (p n : ℕ) (a : Result ⊤ Refusal) (bytes : List ℕ) (x : Answer (List ℕ)) → on_outcome a bytes ≡ x → Keeps (Bytes n) x
       → StoreAgrees s (went_on (onward s) (written_next (ahead s) p a bytes))
       (x >>= λ bytes. write_bytes (view s.memory) p bytes >>= λ m. Machine.onward believed (seen s) m (variables_in s.variables))
   unfolding ◌>>=◌
-  next_agrees p n outcome.Done bytes x e k = rw (sym e) (written_agrees s st room p bytes (bytes-are bytes (kept-bytes (rw (sym e) at k))))
+  next_agrees p n (Ok u) bytes x e k = rw (sym e) (written_agrees s st room p bytes (bytes-are bytes (kept-bytes (rw (sym e) at k))))
     where
       kept-bytes : Keeps (Bytes n) (ok bytes) → T (are_bytes bytes)
       kept-bytes (kept b) = b.1
-  next_agrees p n (outcome.Refused m) bytes x e k = rw (sym e) (refusal refl)
+  next_agrees p n (Err m) bytes x e k = rw (sym e) (refusal refl)
 
   copied_agrees : (p q n : ℕ)
       → StoreAgrees s (went_on (onward s) (copied_of (ahead s) p q n image extents))
@@ -222,9 +220,9 @@ module _ (s : State) (st : Steady s) (room : s.memory.registers.next < 4096) (im
       let (k₂, e₂, p₂, h₂) = operand-stands image k₁ y (W.number n) e p₁ h₁ in
       let (k₃, e₃, p₃, h₃) = field-stands image k₂ n [] e p₂ h₂ in
       rw (e₁, read_next x k₁, e₂, read_next y k₂, e₃, operand-found s.variables st.variables x k₁ p₁ f, operand-found s.variables st.variables y k₂ p₂ g)
-      (reached (StoreAgrees s) (λ n. both (Refused n) s.memory.store) _ _
+      (reached (StoreAgrees s) (λ n. both (Err n) s.memory.store) _ _
       (λ n. refusal refl)
-      (λ q. reached (StoreAgrees s) (λ n. both (Refused n) s.memory.store) (λ r. went_on (onward s) (copied_of (ahead s) q r n image extents)) _
+      (λ q. reached (StoreAgrees s) (λ n. both (Err n) s.memory.store) (λ r. went_on (onward s) (copied_of (ahead s) q r n image extents)) _
       (λ n. refusal refl) (λ r. copied_agrees q r n)
       (value_of (variables_in s.variables) y) (operand-good s.variables st.variables y g))
       (value_of (variables_in s.variables) x) (operand-good s.variables st.variables x f))

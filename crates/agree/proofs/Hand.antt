@@ -1,4 +1,5 @@
 -- A pointer that is handed out goes to a variable: ConstantAddress and Offset agree with the believed machine, by the memory's own theorems.
+use Rattle.std.specs.Prelude.{Result, Ok, Err}
 use Prim.Native.Nat.{ℕ, ◌+◌, ◌-◌, ◌^◌, ◌<◌}
 use native.Mathlib.Omega.{arith}
 use mathlib.Core.Bool.{Bool, true, false}
@@ -7,6 +8,8 @@ use mathlib.Core.List.{List, [], ◌∷◌, ◌++◌}
 use lib.ListN.{length}
 use lib.Dec.{ltb, leb, eqb}
 use borrow.Author.Tests.{eq-eqb}
+use Rattle.std.proofs.lemmas.Bool.{false≢true}
+use Rattle.value.specs.declared.refusal.Refusal.{Refusal}
 use Rattle.value.specs.Answer.{Answer, pick, ◌>>=◌}
 use Rattle.value.specs.Value.{value, pointer}
 use Rattle.image.specs.Program.{Program, Operand, ConstantAddress, Offset}
@@ -16,8 +19,6 @@ use Rattle.memory.specs.Memory.{Memory, constant_address, offset_by}
 use Rattle.memory.specs.Tables.{Tables, Both, both, tables, State, state, more, pointer_at, address_of, offset_of}
 use Rattle.memory.specs.View.{view, variables_in, on_given, after_pointer}
 use Rattle.memory.specs.declared.Registers.{Registers}
-use Rattle.memory.specs.declared.Given.{Given}
-use Rattle.memory.specs.declared.Given.TheVariants as given
 use Rattle.memory.proofs.Facts.{Sound}
 use Rattle.memory.proofs.Pointers.{count-seen, address-view, address-sound, offset-view, offset-sound}
 use Rattle.machine.specs.Machine.{Stepped, set_to, value_of, pointer_of, points, execute}
@@ -25,7 +26,6 @@ use Rattle.machine.specs.Believed.{believed}
 use Rattle.machine.proofs.Values.{pointer-good}
 use Rattle.image.specs.Standing.{Stand}
 use Rattle.instruction.specs.Storage.{Pointed, pointed, pointed_of, handed_of, addressed_of, offsetted_of}
-use Rattle.instruction.specs.declared.step.Progress.TheVariants.{Refused}
 use Rattle.calls.proofs.CallAgrees.{moved, moved-sound, moved-seen}
 use Rattle.calls.proofs.VariablesAgree.{read_next}
 use Rattle.agree.specs.Seen.{seen, Agrees}
@@ -37,9 +37,9 @@ use Rattle.agree.proofs.Reach.{reached}
 use Rattle.image.specs.Limits.{AreBytes}
 
 -- what is handed out is the next number, and the count of pointers rises; else nothing
-pub data Hands (m : Registers) : Given → Type 0 where
-  hands : Hands m (given.Made m.pointers (more m))
-  withholds : {n : ℕ} → Hands m (given.Refused n)
+pub data Hands (m : Registers) : Result (ℕ × Registers) Refusal → Type 0 where
+  hands : Hands m (Ok (m.pointers, more m))
+  withholds : {n : Refusal} → Hands m (Err n)
 
 -- the tables as an instruction is given them
 abbrev pub ahead : State → Tables
@@ -51,9 +51,9 @@ module _ (s : State) (st : Steady s) (room : s.memory.registers.next < 4096) whe
   back_to t = tables s.memory.registers t.store t.frames t.bounds t.pointers
 
   -- where a memory's answer is the believed one, its tables are sound, and a refusal leaves them as they stood
-  pub point_agrees : (to : ℕ) → to < 256 → (a : Given) (store frames bounds pointers : List ℕ) → Hands (onward s) a → (x : Answer Memory)
-      → on_given a (λ m. view (tables m store frames bounds pointers)) ≡ x → ((p : ℕ) (m : Registers) → a ≡ given.Made p m → Sound (tables m store frames bounds pointers))
-      → AreBytes store → ((n : ℕ) → a ≡ given.Refused n → tables (onward s) store frames bounds pointers ≡ ahead s)
+  pub point_agrees : (to : ℕ) → to < 256 → (a : Result (ℕ × Registers) Refusal) (store frames bounds pointers : List ℕ) → Hands (onward s) a → (x : Answer Memory)
+      → on_given a (λ m. view (tables m store frames bounds pointers)) ≡ x → ((p : ℕ) (m : Registers) → a ≡ Ok (p, m) → Sound (tables m store frames bounds pointers))
+      → AreBytes store → ((n : Refusal) → a ≡ Err n → tables (onward s) store frames bounds pointers ≡ ahead s)
       → Agrees s (pointed_of a s.variables to).answer (λ m. state (tables m store frames bounds pointers) (pointed_of a s.variables to).table) (x >>= λ m. points believed (seen s) to m)
   unfolding ◌>>=◌
   point_agrees to l _ store frames bounds pointers hands x e so bytes left =
@@ -72,21 +72,21 @@ module _ (s : State) (st : Steady s) (room : s.memory.registers.next < 4096) whe
 -- ---- ConstantAddress, Offset
 
 -- a table of pointers, where nothing is handed out, is as it was
-record Handing (m : Registers) (l : List ℕ) (b : Both Given) : Type 0 where
+record Handing (m : Registers) (l : List ℕ) (b : Both (Result (ℕ × Registers) Refusal)) : Type 0 where
   hand : Hands m b.answer
-  left : (n : ℕ) → b.answer ≡ given.Refused n → b.table ≡ l
+  left : (n : Refusal) → b.answer ≡ Err n → b.table ≡ l
 
-either : {m : Registers} {l : List ℕ} (t : Bool) {x y : Both Given} → Handing m l x → Handing m l y → Handing m l (pick t x y)
+either : {m : Registers} {l : List ℕ} (t : Bool) {x y : Both (Result (ℕ × Registers) Refusal)} → Handing m l x → Handing m l y → Handing m l (pick t x y)
 either true x y = x
 either false x y = y
 
-no_hand : {m : Registers} {l : List ℕ} {n : ℕ} → Handing m l (both (given.Refused n) l)
+no_hand : {m : Registers} {l : List ℕ} {n : Refusal} → Handing m l (both (Err n) l)
 no_hand = record { hand = withholds; left = λ n e. refl }
 
-pub never_refused : {p n : ℕ} {m : Registers} → given.Made p m ≡ given.Refused n → ⊥
-never_refused e = let z : ◌≡◌ {A = ℕ} 0 1 = cc in omega arith
+pub never_refused : {p : ℕ} {n : Refusal} {m : Registers} → ◌≡◌ {A = Result (ℕ × Registers) Refusal} (Ok (p, m)) (Err n) → ⊥
+never_refused e = false≢true cc
 
-new_hand : {m : Registers} {l l' : List ℕ} → Handing m l (both (given.Made m.pointers (more m)) l')
+new_hand : {m : Registers} {l l' : List ℕ} → Handing m l (both (Ok (m.pointers, more m)) l')
 new_hand = record { hand = hands; left = λ n e. absurd (never_refused e) }
 
 address_hands : (m : Registers) (k : ℕ) (l : List ℕ) → Handing m l (address_of m k l)
@@ -133,7 +133,7 @@ module _ (s : State) (st : Steady s) (room : s.memory.registers.next < 4096) (im
       let (k₂, e₂, p₂, h₂) = operand-stands image k₁ x (W.number by) e p₁ h₁ in
       let (k₃, e₃, p₃, h₃) = field-stands image k₂ by [] e p₂ h₂ in
       rw (e₁, e₂, read_next x k₂, e₃, operand-found s.variables st.variables x k₂ p₂ f)
-      (reached (PointersAgree s) (λ n. pointed (Refused n) s.memory.pointers s.variables)
+      (reached (PointersAgree s) (λ n. pointed (Err n) s.memory.pointers s.variables)
       (λ q. handed_of (offset_of (onward s) q by s.memory.pointers) s.variables to) (λ q. offset_by (view s.memory) q by >>= λ m. points believed (seen s) to m)
       (λ n. refusal refl)
       (λ q.

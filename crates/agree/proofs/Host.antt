@@ -1,4 +1,5 @@
 -- The host's allocate, write and read are the believed machine's, on a sound state, by the memory's own theorems.
+use Rattle.std.specs.Prelude.{Result, Ok, Err, ⊤}
 use Prim.Native.Nat.{ℕ, min}
 use native.Mathlib.Omega.{arith}
 use mathlib.Core.Path.{◌≡◌, refl, sym, ap, ◌∙◌}
@@ -7,6 +8,7 @@ use mathlib.Core.List.{List}
 use lib.ListN.{length}
 use lib.Dec.{leb}
 use borrow.Author.Tests.{le-leb, lt-leb, leb-true, leb-false}
+use Rattle.value.specs.declared.refusal.Refusal.{Refusal}
 use Rattle.value.specs.Answer.{Answer, ok, need, pick, ◌>>=◌}
 use Rattle.value.specs.Refusal.{short_table}
 use Rattle.image.specs.Parse.{took}
@@ -17,10 +19,6 @@ use Rattle.memory.specs.Memory.{Memory, live_list, allocate, write_bytes, read_b
 use Rattle.memory.specs.Tables.{Tables, tables, both, out, State, state, allocated_of, written_of, read_of, listing, filled_of, roomy_of, listed_of, sound_of}
 use Rattle.memory.specs.View.{view, on_given, on_outcome, after_allocate, after_write, after_read}
 use Rattle.memory.specs.declared.Registers.{Registers}
-use Rattle.memory.specs.declared.Given.{Given}
-use Rattle.memory.specs.declared.Given.TheVariants as given
-use Rattle.memory.specs.declared.Outcome.{Outcome}
-use Rattle.memory.specs.declared.Outcome.TheVariants as outcome
 use Rattle.memory.proofs.Every.{by_test}
 use Rattle.memory.proofs.Facts.{Sound, ready_test}
 use Rattle.memory.proofs.Pointers.{count-seen}
@@ -41,12 +39,13 @@ use Rattle.agree.proofs.Hand.{Hands, hands, withholds}
 use Rattle.agree.proofs.Initialize.{Left, allots}
 use Rattle.agree.proofs.Access.{written-bytes, written-left}
 use Rattle.agree.proofs.Loaded.{loaded_follows}
-use Rattle.agree.proofs.Entries.{loaded-end, asked}
+use Rattle.decode.proofs.Items.{tables-given}
+use Rattle.agree.proofs.Entries.{asked}
 use Rattle.image.specs.Limits.{AreBytes}
 
 module _ (t : State) (st : Sound t.memory) where
   -- by what an allocation hands out
-  allocated-turn : (a : Given) (store frames bounds pointers : List ℕ) → Hands t.memory.registers a → Left t.memory (out a store frames bounds pointers) → (x : Answer Memory)
+  allocated-turn : (a : Result (ℕ × Registers) Refusal) (store frames bounds pointers : List ℕ) → Hands t.memory.registers a → Left t.memory (out a store frames bounds pointers) → (x : Answer Memory)
       → on_given a (λ m. view (tables m store frames bounds pointers)) ≡ x
       → allocated_turn t (out a store frames bounds pointers) ≡ changes (seen t) (gave (length (view t.memory).pointers)) (x >>= λ m. ok (with_memory believed (seen t) m))
   unfolding changes ◌>>=◌
@@ -55,19 +54,19 @@ module _ (t : State) (st : Sound t.memory) where
   allocated-turn _ store frames bounds pointers (withholds {n}) left x e =
       rw (sym e) (ap (λ (u : Tables). turn (refusal n) (seen (state u t.variables))) (left _ refl))
 
-  written-turn : (a : Outcome) (store : List ℕ) → ((n : ℕ) → a ≡ outcome.Refused n → store ≡ t.memory.store) → (x : Answer Memory)
+  written-turn : (a : Result ⊤ Refusal) (store : List ℕ) → ((n : Refusal) → a ≡ Err n → store ≡ t.memory.store) → (x : Answer Memory)
       → on_outcome a (view (tables t.memory.registers store t.memory.frames t.memory.bounds t.memory.pointers)) ≡ x
       → written_turn t (both a store) ≡ changes (seen t) done (x >>= λ m. ok (with_memory believed (seen t) m))
   unfolding changes ◌>>=◌
-  written-turn outcome.Done store left x e = rw (sym e) refl
-  written-turn (outcome.Refused n) store left x e =
+  written-turn (Ok u) store left x e = rw (sym e) refl
+  written-turn (Err n) store left x e =
       rw (sym e)
       (ap (λ (l : List ℕ). turn (refusal n) (seen (state (tables t.memory.registers l t.memory.frames t.memory.bounds t.memory.pointers) t.variables))) (left n refl))
 
-read-turn : (t : State) (a : Outcome) (bs : List ℕ) (x : Answer (List ℕ)) → on_outcome a bs ≡ x → turn (read_reply (reading a) bs) (seen t) ≡ shows (seen t) x
+read-turn : (t : State) (a : Result ⊤ Refusal) (bs : List ℕ) (x : Answer (List ℕ)) → on_outcome a bs ≡ x → turn (read_reply (reading a) bs) (seen t) ≡ shows (seen t) x
 unfolding shows
-read-turn t outcome.Done bs x e = rw (sym e) refl
-read-turn t (outcome.Refused n) bs x e = rw (sym e) refl
+read-turn t (Ok u) bs x e = rw (sym e) refl
+read-turn t (Err n) bs x e = rw (sym e) refl
 
 -- ---- the list's room is that of its shortest slice
 
@@ -115,7 +114,7 @@ module _ (t : State) (so : sound_of t ≡ true) (bytes : AreBytes t.memory.store
   read-enters s whole P e h p buffer =
       let c = (loaded_follows s whole P e h).constants in
       let r = read_of t.memory p buffer s (extents_of s) in
-      rw (loaded-end s P e h, so, asked t so bytes (to_read P p (length buffer)))
+      rw (tables-given s P e h, so, asked t so bytes (to_read P p (length buffer)))
       (read-turn t r.answer r.table (read_bytes P.constants (view t.memory) p (length buffer))
       (read_view t.memory st s (extents_of s) c.inside p buffer ∙ ap (λ cs. read_bytes cs (view t.memory) p (length buffer)) c.shown))
 
@@ -128,22 +127,22 @@ module _ (t : State) (so : sound_of t ≡ true) (bytes : AreBytes t.memory.store
       (go (roomy_of n (length l) (length f) (length a) (length o)) refl)
     where
       go : (b : Bool) → roomy_of t.memory.registers.pointers (length l) (length f) (length a) (length o) ≡ b
-          → listed_turn t (pick b (record { answer = outcome.Done; slices = filled_of t.memory.registers.depth t.memory.registers.pointers t.memory.frames t.memory.pointers l f a o })
-          (listing (outcome.Refused short_table) l f a o)) ≡ lays (seen t) (need b short_table (ok (live_list (view t.memory))))
+          → listed_turn t (pick b (record { answer = (Ok tt); slices = filled_of t.memory.registers.depth t.memory.registers.pointers t.memory.frames t.memory.pointers l f a o })
+          (listing (Err short_table) l f a o)) ≡ lays (seen t) (need b short_table (ok (live_list (view t.memory))))
       go true e = ap (λ (ls : List Live). turn (lists ls) (seen t)) (live_view t.memory st l f a o e)
       go false e = refl
 
   -- ---- the state after is sound again, and its store made of bytes
 
-  allocated-kept : (a : Given) (store frames bounds pointers : List ℕ) → Hands t.memory.registers a → Left t.memory (out a store frames bounds pointers)
-      → ((p : ℕ) (m : Registers) → a ≡ given.Made p m → Sound (tables m store frames bounds pointers)) → sound_of (allocated_state t (out a store frames bounds pointers)) ≡ true
+  allocated-kept : (a : Result (ℕ × Registers) Refusal) (store frames bounds pointers : List ℕ) → Hands t.memory.registers a → Left t.memory (out a store frames bounds pointers)
+      → ((p : ℕ) (m : Registers) → a ≡ Ok (p, m) → Sound (tables m store frames bounds pointers)) → sound_of (allocated_state t (out a store frames bounds pointers)) ≡ true
   allocated-kept _ store frames bounds pointers hands left sound = again_sound t so _ (sound _ _ refl) refl refl refl
   allocated-kept _ store frames bounds pointers (withholds {n}) left sound = rw (left n refl) so
 
-  written-kept : (a : Outcome) (store : List ℕ) → ((n : ℕ) → a ≡ outcome.Refused n → store ≡ t.memory.store)
-      → (a ≡ outcome.Done → Sound (tables t.memory.registers store t.memory.frames t.memory.bounds t.memory.pointers)) → sound_of (written_state t (both a store)) ≡ true
-  written-kept outcome.Done store left sound = again_sound t so _ (sound refl) refl refl refl
-  written-kept (outcome.Refused n) store left sound = rw (left n refl) so
+  written-kept : (a : Result ⊤ Refusal) (store : List ℕ) → ((n : Refusal) → a ≡ Err n → store ≡ t.memory.store)
+      → (a ≡ Ok tt → Sound (tables t.memory.registers store t.memory.frames t.memory.bounds t.memory.pointers)) → sound_of (written_state t (both a store)) ≡ true
+  written-kept (Ok u) store left sound = again_sound t so _ (sound refl) refl refl refl
+  written-kept (Err n) store left sound = rw (left n refl) so
 
   pub allocate-kept : (n : ℕ) → sound_of (allocated_state t (host_allocated t n)) ≡ true
   unfolding host_allocated

@@ -1,26 +1,25 @@
 -- Initialize and Drop agree with the believed machine: Initialize allocates and then writes through the new pointer, both by the memory's own theorems.
+use Rattle.std.specs.Prelude.{Result, Ok, Err, ⊤}
 use Prim.Native.Nat.{ℕ, ◌+◌, ◌-◌, ◌≤◌, ◌<◌}
 use native.Mathlib.Omega.{arith}
 use mathlib.Core.Bool.{Bool, true, false}
-use mathlib.Core.Path.{◌≡◌, refl, sym, ap₂, ◌∙◌, subst}
+use mathlib.Core.Path.{◌≡◌, refl, sym, ap, ap₂, ◌∙◌, subst}
 use mathlib.Core.List.{List, [], ◌∷◌}
 use lib.ListN.{length}
 use lib.Dec.{ltb, leb, eqb}
 use borrow.Author.Tests.{eq-eqb, le-ltb, lt-ltb, leb-true, leb-false}
+use Rattle.value.specs.declared.refusal.Refusal.{Refusal}
 use Rattle.value.specs.Answer.{Answer, ok, refused, need, pick, ◌>>=◌}
 use Rattle.value.specs.Refusal.{bytes_exceed_size, allocations_full, bytes_full, pointers_full}
 use Rattle.image.specs.Program.{Program, Operand, Initialize, Drop}
 use Rattle.image.specs.Written.{num, raw, length_and}
 use Rattle.memory.specs.Memory.{Memory, live_count, live_bytes, allocated, allocate, write_bytes}
-use Rattle.memory.specs.Tables.{Tables, tables, Out, out, more, State, state, ready, live, top_first, bound, room_of, unmade, allocated_of, written_of}
+use Rattle.memory.specs.Tables.{Tables, tables, Out, out, more, State, state, ready, live, top_first, bound, room_of, made_where, unmade, allocated_of, written_of}
 use Rattle.memory.specs.View.{view, on_given, on_outcome, after_allocate, after_write}
 use Rattle.memory.specs.declared.Registers.{Registers}
-use Rattle.memory.specs.declared.Given.{Given}
-use Rattle.memory.specs.declared.Given.TheVariants as given
-use Rattle.memory.specs.declared.Outcome.{Outcome}
-use Rattle.memory.specs.declared.Outcome.TheVariants as outcome
 use Rattle.memory.proofs.Every.{by_test}
 use Rattle.memory.proofs.Facts.{Sound}
+use Rattle.memory.proofs.Laws.{ok_same}
 use Rattle.memory.proofs.Pointers.{count-seen, never_given}
 use Rattle.memory.proofs.Allocating.{allocate-view, allocate-sound}
 use Rattle.memory.proofs.Access.{depth_is, write_view, write-sound}
@@ -28,6 +27,7 @@ use Rattle.machine.specs.Machine.{Stepped, points, execute}
 use Rattle.machine.specs.Believed.{believed}
 use Rattle.image.specs.Standing.{Stand}
 use Rattle.image.proofs.Standing.{raw-took}
+use Rattle.machine.proofs.Agree.{refused≢ok, need-ok, ok_inj}
 use Rattle.machine.proofs.Initialize.{granted}
 use Rattle.instruction.specs.Code as Code
 use Rattle.instruction.specs.Storage.{given_by, filled_by, made_of, unstepped, initialized_by, initialized_of}
@@ -50,7 +50,7 @@ StepAgrees s r x = Agrees s r.answer (λ m. state (tables m r.store r.frames r.b
 -- ---- Drop
 
 pub drop_agrees : (s : State) → Steady s → s.memory.registers.next < 4096 → (P : Program) (x : Operand)
-    → Agrees s (Next (onward s)) (with_variables s s.variables) (execute believed P (seen s) (Drop x))
+    → Agrees s (Ok (Next (onward s))) (with_variables s s.variables) (execute believed P (seen s) (Drop x))
 unfolding execute
 drop_agrees s st room P x = record {
   same = went-same (moved-seen s.memory _ _) (eq-eqb _ 1 st.running) refl refl;
@@ -60,7 +60,7 @@ drop_agrees s st room P x = record {
 -- ---- an allocation hands out the next number, its store is made of bytes, and a refusal leaves every table as it stood
 
 abbrev pub Left : Tables → Out → Type 0
-Left t o = (k : ℕ) → o.answer ≡ given.Refused k → tables t.registers o.store o.frames o.bounds o.pointers ≡ t
+Left t o = (k : Refusal) → o.answer ≡ Err k → tables t.registers o.store o.frames o.bounds o.pointers ≡ t
 
 pub record Allots (t : Tables) (o : Out) : Type 0 where
   pub hand : Hands t.registers o.answer
@@ -71,56 +71,53 @@ either : {t : Tables} (b : Bool) {x y : Out} → Allots t x → Allots t y → A
 either true x y = x
 either false x y = y
 
-no_room : (t : Tables) (n : ℕ) → Allots t (unmade t n)
+no_room : (t : Tables) (n : Refusal) → Allots t (unmade t n)
 no_room t n = record { hand = withholds; bytes = λ f. f; left = λ k e. refl }
 
 pub allots : (t : Tables) (size : ℕ) → Allots t (allocated_of t size)
 unfolding allocated_of
 allots t size =
     let u = bound t (live t) in
-    let r = room_of u size t.registers.pointers in
     either (ready t)
     (either (eqb t.registers.depth 0) (no_room t _)
     (either (ltb (live t) (top_first t)) (no_room t _)
     (either (leb 512 (live t)) (no_room t _)
-    (either (eqb r 0) (record { hand = hands; bytes = zeroed-bytes t.store u size; left = λ k e. absurd (never_refused e) }) (no_room t r)))))
+    (by_room (room_of u size t.registers.pointers)))))
     (no_room t _)
+  where
+    by_room : (r : Result ⊤ Refusal) → Allots t (made_where t size r)
+    by_room (Ok u) = record { hand = hands; bytes = zeroed-bytes t.store (bound t (live t)) size; left = λ k e. absurd (never_refused e) }
+    by_room (Err n) = no_room t n
 
 -- ---- and then bytes are written through it
 
 -- what is asked of an answer with the memory's tables, against the believed memory's
 record Gives (t : Tables) (o : Out) (x : Answer Memory) : Type 0 where
   same : on_given o.answer (λ m. view (tables m o.store o.frames o.bounds o.pointers)) ≡ x
-  sound : (p : ℕ) (n : Registers) → o.answer ≡ given.Made p n → Sound (tables n o.store o.frames o.bounds o.pointers)
+  sound : (p : ℕ) (n : Registers) → o.answer ≡ Ok (p, n) → Sound (tables n o.store o.frames o.bounds o.pointers)
   hand : Hands t.registers o.answer
   bytes : AreBytes o.store
   left : Left t o
-
-made-same : {p q : ℕ} {m n : Registers} → given.Made p m ≡ given.Made q n → m ≡ n
-made-same e = cc
-
-never_ok : {k : ℕ} {m : Memory} → refused k ≡ ok m → ⊥
-never_ok e = let z : ◌≡◌ {A = ℕ} 0 1 = cc in omega arith
 
 -- the write is granted
 abbrev Granted : Memory → (p : ℕ) → List ℕ → Type 0
 Granted m p bs = (w : Memory) × (write_bytes m p bs ≡ ok w)
 
 module _ (t : Tables) (frames bounds pointers : List ℕ) where
-  wrote : (a : Outcome) (store : List ℕ) (y : Answer Memory) → on_outcome a (view (tables (more t.registers) store frames bounds pointers)) ≡ y
-      → (a ≡ outcome.Done → Sound (tables (more t.registers) store frames bounds pointers)) → AreBytes store → (w : Memory) → y ≡ ok w
+  wrote : (a : Result ⊤ Refusal) (store : List ℕ) (y : Answer Memory) → on_outcome a (view (tables (more t.registers) store frames bounds pointers)) ≡ y
+      → (a ≡ Ok tt → Sound (tables (more t.registers) store frames bounds pointers)) → AreBytes store → (w : Memory) → y ≡ ok w
       → Gives t (out (given_by a t.registers.pointers (more t.registers)) store frames bounds pointers) y
-  wrote outcome.Done store y e so f w g = record {
+  wrote (Ok u) store y e so f w g = record {
     same = e;
-    sound = λ p n h. subst (λ k. Sound (tables k store frames bounds pointers)) (made-same h) (so refl);
+    sound = λ p n h. subst (λ k. Sound (tables k store frames bounds pointers)) (ap (λ (x : ℕ × Registers). x.1) (ok_same _ _ h)) (so refl);
     hand = hands;
     bytes = f;
     left = λ k h. absurd (never_refused h);
   }
-  wrote (outcome.Refused k) store y e so f w g = absurd (never_ok (e ∙ g))
+  wrote (Err k) store y e so f w g = absurd (refused≢ok (e ∙ g))
 
-  filled : (bs : List ℕ) → AreBytes bs → (a : Given) (store : List ℕ) → Hands t.registers a → (x : Answer Memory) → on_given a (λ n. view (tables n store frames bounds pointers)) ≡ x
-      → ((p : ℕ) (n : Registers) → a ≡ given.Made p n → Sound (tables n store frames bounds pointers)) → AreBytes store → Left t (out a store frames bounds pointers)
+  filled : (bs : List ℕ) → AreBytes bs → (a : Result (ℕ × Registers) Refusal) (store : List ℕ) → Hands t.registers a → (x : Answer Memory) → on_given a (λ n. view (tables n store frames bounds pointers)) ≡ x
+      → ((p : ℕ) (n : Registers) → a ≡ Ok (p, n) → Sound (tables n store frames bounds pointers)) → AreBytes store → Left t (out a store frames bounds pointers)
       → ((m : Memory) → x ≡ ok m → Granted m t.registers.pointers bs)
       → Gives t (filled_by a store frames bounds pointers bs) (x >>= λ n. write_bytes n t.registers.pointers bs)
   unfolding ◌>>=◌ after_write
@@ -134,18 +131,13 @@ module _ (t : Tables) (frames bounds pointers : List ℕ) where
   filled bs f _ store withholds x e so g left granted = rw (sym e) (record { same = refl; sound = λ p n h. absurd (never_given _ _ _ h); hand = withholds; bytes = g; left = left })
 
 -- what is allocated, where it is
-need-ok : (b : Bool) (n : ℕ) (a : Answer Memory) (m : Memory) → need b n a ≡ ok m → a ≡ ok m
-unfolding need
-need-ok true n a m e = e
-need-ok false n a m e = absurd (never_ok e)
-
 allocate-is : (m : Memory) (n : ℕ) (w : Memory) → allocate m n ≡ ok w → allocated m n ≡ w
 unfolding allocate
 allocate-is m n w e =
-    let a = need-ok (ltb (live_count m.frames) 512) allocations_full _ w e in
-    let b = need-ok (leb (live_bytes m.frames + n) 32768) bytes_full _ w a in
-    let c = need-ok (ltb (length m.pointers) 4096) pointers_full _ w b in
-    cc
+    let a = need-ok (ltb (live_count m.frames) 512) allocations_full _ e in
+    let b = need-ok (leb (live_bytes m.frames + n) 32768) bytes_full _ a.1 in
+    let c = need-ok (ltb (length m.pointers) 4096) pointers_full _ b.1 in
+    ok_inj c.1
 
 made-gives : (t : Tables) → Sound t → (n : ℕ) (bs : List ℕ) → length bs ≤ n → AreBytes t.store → AreBytes bs
     → Gives t (made_of t n bs) (allocate (view t) n >>= λ m. write_bytes m t.registers.pointers bs)

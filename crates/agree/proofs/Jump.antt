@@ -1,4 +1,5 @@
 -- Jump and Switch agree with the believed machine: a label's table entry is its place, and branches are gone through one by one.
+use Rattle.std.specs.Prelude.{Err}
 use Prim.Native.Nat.{ℕ, ◌≤◌, ◌<◌}
 use native.Mathlib.Omega.{arith}
 use mathlib.Core.Bool.{not}
@@ -7,9 +8,8 @@ use mathlib.Core.List.{List, [], ◌∷◌, ◌++◌, append_assoc}
 use lib.ListN.{length, get_or}
 use lib.Dec.{ltb, eqb}
 use borrow.Author.Tests.{lt-ltb, eq-eqb, ne_eqb, eqb-true, eqb-false}
-use Rattle.value.specs.Answer.{Answer, ok, refused, need, pick, ◌>>=◌}
+use Rattle.value.specs.Answer.{Answer, ok, refused, need, ◌>>=◌}
 use Rattle.value.specs.Value.{Value, Kind, bool, u8, u16, u32, u64, i8, i16, i32, i64, f32, f64, char, asn, pointer, tag, switches, switch_on}
-use Rattle.value.proofs.Tags.{tag-some}
 use Rattle.image.specs.Program.{Program, Operand, Branch, place_of, Jump, Switch}
 use Rattle.image.specs.Written.{num, each, counted}
 use Rattle.image.specs.Written as W
@@ -21,9 +21,8 @@ use Rattle.machine.specs.Believed.{believed}
 use Rattle.image.specs.Standing.{Stand}
 use Rattle.instruction.specs.Decode.{field}
 use Rattle.instruction.specs.Compute.{found_of}
-use Rattle.instruction.specs.Code.{went_of, jumped_of, key_of, branch_of, switched_of}
+use Rattle.instruction.specs.Code.{either, went_of, jumped_of, key_of, branch_of, switched_of}
 use Rattle.instruction.specs.declared.field.Field.{Field}
-use Rattle.instruction.specs.declared.step.Progress.TheVariants.{Refused}
 use Rattle.calls.proofs.CallAgrees.{moved-sound, moved-seen}
 use Rattle.calls.proofs.VariablesAgree.{read_next}
 use Rattle.agree.specs.Seen.{seen, Agrees}
@@ -40,8 +39,9 @@ pub record Labelled (P : Program) (labels : List ℕ) : Type 0 where
 
 -- ---- branches
 
-either_way : (a b : ℕ) → eqb a b ≡ eqb b a
-either_way a b = by_test (eqb a b) (λ t. t ∙ sym (eq-eqb b a (sym (eqb-true a b t)))) (λ t. t ∙ sym (ne_eqb b a (λ e. eqb-false a b t (sym e))))
+pub same_tests : (a b c d : ℕ) → (a ≡ b → c ≡ d) → (c ≡ d → a ≡ b) → eqb a b ≡ eqb c d
+same_tests a b c d f g =
+    by_test (eqb a b) (λ t. t ∙ sym (eq-eqb c d (f (eqb-true a b t)))) (λ t. t ∙ sym (ne_eqb c d (λ e. eqb-false a b t (g e))))
 
 -- the first branch with the number is found, or the default
 module _ (image : List ℕ) (bits default : ℕ) where
@@ -55,8 +55,8 @@ module _ (image : List ℕ) (bits default : ℕ) where
       let (k₂, e₂, p₂, h₂) = field-stands image k₁ b.label rest e p₁ h₁ in
       let (k₃, e₃, p₃) = chosen bs k₂ e p₂ h₂ in
       by_test (eqb b.number bits)
-      (λ t. (k₂, rw (e₁, e₂, t, sym (either_way b.number bits) ∙ t), p₂))
-      (λ t. (k₃, rw (e₁, e₂, t, sym (either_way b.number bits) ∙ t) e₃, p₃))
+      (λ t. (k₂, rw (e₁, e₂, t, same_tests bits b.number b.number bits sym sym ∙ t), p₂))
+      (λ t. (k₃, rw (e₁, e₂, t, same_tests bits b.number b.number bits sym sym ∙ t) e₃, p₃))
 
 -- every label that a Switch names is one of the program's
 abbrev pub LabelsFit : Program → List Branch → Type 0
@@ -106,14 +106,14 @@ module _ (s : State) (st : Steady s) (image labels : List ℕ) (P : Program) (la
   -- what follows from the examinee
   switched : (bs : List Branch) (default : ℕ) → LabelsFit P bs → default < length P.blocks → (branch : ℕ → Field)
       → ((bits : ℕ) → (next : ℕ) × (branch bits ≡ field (choose bits bs default) next) × (0 < next)) → (a : Answer Value)
-      → Agrees s (pick (eqb (key_of (found_of a)).tag 0) (Refused (key_of (found_of a)).bits) (went_of (onward s) labels (branch (key_of (found_of a)).bits)))
+      → Agrees s (either (found_of a) (λ n. Err n) (λ v. either (key_of v) (λ n. Err n) (λ bits. went_of (onward s) labels (branch bits))))
       (with_variables s s.variables) (a >>= λ v. switch_on v >>= λ n. jump believed (seen s) (place_of P (choose n bs default)))
-  unfolding key_of switch_on need ◌>>=◌ tag
+  unfolding key_of switch_on need ◌>>=◌
   switched bs default f l branch reads (refused n) = refusal refl
   switched bs default f l branch reads (ok v) =
       let (next, e, p) = reads v.bits in
       by_test (switches v.kind)
-      (λ t. rw (key_kind v.kind ∙ ap not t, tag-some v.kind, t, e) (went_agrees (choose v.bits bs default) next (chosen_fits P v.bits default bs f l) p))
+      (λ t. rw (key_kind v.kind ∙ ap not t, t, e) (went_agrees (choose v.bits bs default) next (chosen_fits P v.bits default bs f l) p))
       (λ t. rw (key_kind v.kind ∙ ap not t, t) (refusal refl))
 
   pub switch_agrees : (x : Operand) (bs : List Branch) (default : ℕ) → Fits x → LabelsFit P bs → default < length P.blocks → (at e : ℕ) → 0 < at

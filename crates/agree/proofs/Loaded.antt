@@ -8,7 +8,7 @@ use lib.Dec.{T, leb}
 use Rattle.image.specs.Parse.{took}
 use Rattle.image.specs.Program.{Program, code}
 use Rattle.image.specs.Image.{loaded}
-use Rattle.loader.specs.Tables.{loaded_from}
+use Rattle.loader.specs.Tables.{tables_from}
 use Rattle.machine.specs.Sound.{all, are_bytes}
 use Rattle.machine.specs.Accepted.{accepted}
 use Rattle.decode.specs.Extents.{extents_of}
@@ -30,8 +30,8 @@ module _ (s : List ℕ) (bytes : AreBytes s) (P : Program) (e : ℕ) (h : loaded
 
   -- the used parts of the loader's tables, and where the constants' bytes stand
   pub loaded_follows : Follows P s
-      (take (loaded_from s).instructions (loaded_from s).places) (take (loaded_from s).counts.blocks (loaded_from s).labels)
-      (take (loaded_from s).counts.functions (loaded_from s).functions) (extents_of s)
+      (take (tables_from s).instructions (tables_from s).places) (take (tables_from s).counts.blocks (tables_from s).labels)
+      (take (tables_from s).counts.functions (tables_from s).functions) (extents_of s)
   loaded_follows = record {
     bytes = bytes;
     variables = (within-limits s bytes P e h).variable_count;

@@ -1,4 +1,5 @@
 -- A start is the believed machine's: its checks come in the document's order, and then the function begins as its own theorem says.
+use Rattle.std.specs.Prelude.{Result, Ok, Err, ⊤}
 use Prim.Native.Nat.{ℕ, zero, suc, ◌+◌, ◌-◌, ◌<◌}
 use native.Mathlib.Nat.{add-zero}
 use native.Mathlib.Omega.{arith}
@@ -9,6 +10,8 @@ use lib.ListN.{length, get_or, length-map}
 use lib.Dec.{T, ltb, leb, eqb, leb-suc-suc}
 use borrow.Author.Tests.{lt-ltb, le-leb, lt-leb, eq-eqb, ne_eqb, ltb-true, ltb-false, eqb-true, eqb-false}
 use mir.Facts.{and_yes, yes_and}
+use Rattle.std.proofs.lemmas.Bool.{false≢true}
+use Rattle.value.specs.declared.refusal.Refusal.{Refusal}
 use Rattle.value.specs.Answer.{Answer, refused, need, pick}
 use Rattle.value.specs.Refusal as Refusal
 use Rattle.value.specs.Value.{Value, value, Kind, bool, u8, u16, u32, u64, i8, i16, i32, i64, f32, f64, char, asn, pointer, tag, is_scalar, is_bad_char}
@@ -41,17 +44,20 @@ use Rattle.calls.specs.declared.fields.Callee.{Callee}
 use Rattle.calls.proofs.VariablesAgree.{CalleeRead}
 use Rattle.calls.proofs.Stands.{function-stands}
 use Rattle.calls.proofs.StartAgrees.{StartAgrees, start-refused, start-went, AllGood, start_agrees}
-use Rattle.eval.specs.Loaded.{items_of}
-use Rattle.eval.specs.Entry.{Entering, stepped_from, staying}
-use Rattle.eval.specs.Start.{is_value, value_at, wanted_of, start_refusal, start_loaded, start_entered}
-use Rattle.eval.specs.declared.entry.Entered.TheVariants as entered
+use Rattle.loader.specs.Tables.{tables_from}
+use Rattle.eval.specs.Loaded.{items_in}
+use Rattle.eval.specs.Entry.{Entering, stepped_from}
+use Rattle.eval.specs.Start.{is_value, value_at, wanted_of, start_refusal, where_none, start_loaded, start_entered}
 use Rattle.agree.specs.Seen.{seen}
 use Rattle.agree.specs.Turns.{entered_reply, entered_state, entered_turn}
 use Rattle.agree.proofs.Steady.{tables-sound, runs}
+use Rattle.agree.proofs.Jump.{same_tests}
+use Rattle.step.specs.Items.{Items}
 use Rattle.agree.proofs.Step.{FollowsItems}
 use Rattle.agree.proofs.Loaded.{loaded_follows}
 use Rattle.agree.proofs.Call.{function_in, place_in_lem}
-use Rattle.agree.proofs.Entries.{loaded-end, asked}
+use Rattle.decode.proofs.Items.{tables-given}
+use Rattle.agree.proofs.Entries.{asked}
 use Rattle.image.specs.Limits.{AreBytes}
 
 -- ---- "15 a Char that is no scalar value"
@@ -123,10 +129,6 @@ good-all (g ∷ gs) t e =
 
 -- ---- "14 wrong number of arguments"
 
-same_tests : (a b c d : ℕ) → (a ≡ b → c ≡ d) → (c ≡ d → a ≡ b) → eqb a b ≡ eqb c d
-same_tests a b c d f g =
-    by_test (eqb a b) (λ t. t ∙ sym (eq-eqb c d (f (eqb-true a b t)))) (λ t. t ∙ sym (ne_eqb c d (λ e. eqb-false a b t (g e))))
-
 wanted_is : (f : Callee) (n m : ℕ) (b : Bool) → f.wanted ≡ m → f.flag ≡ flag_number b → wanted_of f n ≡ eqb n (m + flag_number b)
 unfolding wanted_of
 wanted_is f n m false e d = rw (d, e, add-zero m)
@@ -162,11 +164,11 @@ start_bytes_kept t bytes (start-went after vs st v r l f) = f bytes
 
 -- a refusal leaves every table as it stood
 abbrev Stays : State → Entering → Type 0
-Stays t x = (k : ℕ) → entered_reply x.answer ≡ refusal k → entered_state t.memory.registers x ≡ t
+Stays t x = (k : Refusal) → entered_reply x.answer ≡ refusal k → entered_state t.memory.registers x ≡ t
 
 start-stays : (t : State) {w : Code.Stepped} {b : Answer (Machine Memory)} → StartAgrees t.memory t.variables w b → Stays t (stepped_from w)
 start-stays t (start-refused n) k e = refl
-start-stays t (start-went after vs st v r l f) k e = absurd (let z : ◌≡◌ {A = ℕ} 0 1 = cc in omega arith)
+start-stays t (start-went after vs st v r l f) k e = absurd (false≢true cc)
 
 module _ (t : State) (so : sound_of t ≡ true) (bytes : AreBytes t.memory.store) (s : List ℕ) (whole : AreBytes s) (P : Program) (e : ℕ) (h : loaded s ≡ took P e)
     (n : ℕ) (context : Value) (gs : List Value) (fine : T (given context)) (all-fine : T (all given gs)) where
@@ -176,35 +178,35 @@ module _ (t : State) (so : sound_of t ≡ true) (bytes : AreBytes t.memory.store
   abbrev lent : Found
   lent = found (tag context.kind) context.bits
 
-  abbrev number : ℕ
-  number = start_refusal m s (items_of s).functions n lent (tags_of gs) (bits_of gs)
+  -- the tables of the image's items
+  abbrev i : Items
+  i = items_in s (tables_from s)
+
+  abbrev checked : Result ⊤ Refusal
+  checked = start_refusal m s i.functions n lent (tags_of gs) (bits_of gs)
 
   abbrev begun : Code.Stepped
-  begun = begun_of t.memory t.variables s (items_of s).labels (items_of s).functions n lent (tags_of gs) (bits_of gs)
+  begun = begun_of t.memory t.variables s i.labels i.functions n lent (tags_of gs) (bits_of gs)
 
-  -- the entry's answer, by the number of its refusal
-  abbrev answer_by : ℕ → Entering
-  answer_by k = pick (eqb k 0) (stepped_from begun) (staying (entered.Refused k) t)
+  -- the entry's answer, by what its checks found
+  abbrev answer_by : Result ⊤ Refusal → Entering
+  answer_by r = where_none r t (stepped_from begun)
 
   abbrev asked-start : Answer (Machine Memory)
   asked-start = start believed P n context gs (seen t)
 
   -- the same turn, and after it a sound state whose store is made of bytes, the one before it where it is refused
   abbrev Goal : Type 0
-  Goal = (entered_turn m (answer_by number) ≡ changes (seen t) done asked-start) × (sound_of (entered_state m (answer_by number)) ≡ true) × AreBytes (answer_by number).store × Stays t (answer_by number)
+  Goal = (entered_turn m (answer_by checked) ≡ changes (seen t) done asked-start) × (sound_of (entered_state m (answer_by checked)) ≡ true) × AreBytes (answer_by checked).store × Stays t (answer_by checked)
 
-  refused_by : (k : ℕ) → (k ≡ 0 → ⊥) → number ≡ k → asked-start ≡ refused k → Goal
+  refused_by : (k : Refusal) → checked ≡ Err k → asked-start ≡ refused k → Goal
   unfolding changes
-  refused_by k z e d =
-      let there : entered_turn m (answer_by k) ≡ turn (refusal k) (seen t) = rw (ne_eqb k 0 z) refl in
-      let kept : sound_of (entered_state m (answer_by k)) ≡ true = rw (ne_eqb k 0 z) so in
-      let same_bytes_lem : AreBytes (answer_by k).store = rw (ne_eqb k 0 z) bytes in
-      let stays : Stays t (answer_by k) = rw (ne_eqb k 0 z) (λ j d. refl) in (
-        ap (λ j. entered_turn m (answer_by j)) e ∙ there ∙ sym (ap (changes (seen t) done) d),
-        ap (λ j. sound_of (entered_state m (answer_by j))) e ∙ kept,
-        subst (λ j. AreBytes (answer_by j).store) (sym e) same_bytes_lem,
-        subst (λ j. Stays t (answer_by j)) (sym e) stays,
-      )
+  refused_by k e d = (
+    ap (λ r. entered_turn m (answer_by r)) e ∙ sym (ap (changes (seen t) done) d),
+    ap (λ r. sound_of (entered_state m (answer_by r))) e ∙ so,
+    subst (λ r. AreBytes (answer_by r).store) (sym e) bytes,
+    subst (λ r. Stays t (answer_by r)) (sym e) (λ j d. refl),
+  )
 
   sound-all : Sound t.memory × Variables t.variables
   sound-all = let z = tables-sound t so in (z.0, z.1)
@@ -213,7 +215,7 @@ module _ (t : State) (so : sound_of t ≡ true) (bytes : AreBytes t.memory.store
   unfolding all
   both_fine a b = yes_and (given context) (all given gs) a b
 
-  f : FollowsItems P (items_of s)
+  f : FollowsItems P i
   f = loaded_follows s whole P e h
 
   abbrev F : Function
@@ -222,32 +224,32 @@ module _ (t : State) (so : sound_of t ≡ true) (bytes : AreBytes t.memory.store
   -- 11
   by_running : eqb m.running 1 ≡ true → Goal
   unfolding start_refusal start need
-  by_running r = refused_by Refusal.running (λ z. omega arith) (rw r refl) (rw r refl)
+  by_running r = refused_by Refusal.running (rw r refl) (rw r refl)
 
   module _ (idle : eqb m.running 1 ≡ false) where
     -- 13
     by_function : ltb n (length P.functions) ≡ false → Goal
     unfolding start_refusal start need
-    by_function a = refused_by Refusal.no_function (λ z. omega arith) (rw (idle, f.functions_placed, fewer (length P.functions) n, a) refl) (rw (idle, a) refl)
+    by_function a = refused_by Refusal.no_function (rw (idle, f.functions_placed, fewer (length P.functions) n, a) refl) (rw (idle, a) refl)
 
     module _ (known : ltb n (length P.functions) ≡ true) where
       inside : n < length P.functions
       inside = ltb-true n _ known
 
-      callee : CalleeRead s (callee_at s (place_in (items_of s).functions n)) F
+      callee : CalleeRead s (callee_at s (place_in i.functions n)) F
       callee =
           let there = f.function_stands n inside in
-          rw (place_in_lem (items_of s).functions n (omega (arith, f.functions_placed, inside))) (function-stands s (get_or (items_of s).functions n 0) F there.end there.past there.stand)
+          rw (place_in_lem i.functions n (omega (arith, f.functions_placed, inside))) (function-stands s (get_or i.functions n 0) F there.end there.past there.stand)
 
       -- 14
-      counts : wanted_of (callee_at s (place_in (items_of s).functions n)) (length (tags_of gs)) ≡ eqb (length gs) (length F.parameters + flag_number F.return_pointer)
+      counts : wanted_of (callee_at s (place_in i.functions n)) (length (tags_of gs)) ≡ eqb (length gs) (length F.parameters + flag_number F.return_pointer)
       counts =
-          wanted_is (callee_at s (place_in (items_of s).functions n)) (length (tags_of gs)) (length F.parameters) F.return_pointer callee.wanted callee.flag
+          wanted_is (callee_at s (place_in i.functions n)) (length (tags_of gs)) (length F.parameters) F.return_pointer callee.wanted callee.flag
           ∙ ap (λ k. eqb k (length F.parameters + flag_number F.return_pointer)) (length-map gs (λ g. tag g.kind))
 
       by_count : eqb (length gs) (length F.parameters + flag_number F.return_pointer) ≡ false → Goal
       unfolding start_refusal start need
-      by_count b = refused_by Refusal.wrong_arguments (λ z. omega arith) (rw (idle, f.functions_placed, fewer (length P.functions) n, known, counts, b) refl) (rw (idle, known, b) refl)
+      by_count b = refused_by Refusal.wrong_arguments (rw (idle, f.functions_placed, fewer (length P.functions) n, known, counts, b) refl) (rw (idle, known, b) refl)
 
       module _ (many : eqb (length gs) (length F.parameters + flag_number F.return_pointer) ≡ true) where
         -- 15, of the context and of the arguments alike
@@ -255,35 +257,35 @@ module _ (t : State) (so : sound_of t ≡ true) (bytes : AreBytes t.memory.store
         unfolding all_good
         values = sym (ap₂ ◌&&◌ (good-value context fine) (values-good gs all-fine))
 
-        number_is_lem : number ≡ pick (all_good (context ∷ gs)) 0 Refusal.not_scalar
+        checked-is : checked ≡ pick (all_good (context ∷ gs)) (Ok tt) (Err Refusal.not_scalar)
         unfolding start_refusal
-        number_is_lem =
+        checked-is =
             rw (idle, f.functions_placed, fewer (length P.functions) n, known, counts, many, values)
             (both_tests (is_value (tag context.kind) context.bits) (every (length (tags_of gs)) (value_at (tags_of gs) (bits_of gs))))
           where
-            both_tests : (b c : Bool) → pick (not b) Refusal.not_scalar (pick (not c) Refusal.not_scalar 0) ≡ pick (b && c) 0 Refusal.not_scalar
+            both_tests : (b c : Bool) → ◌≡◌ {A = Result ⊤ Refusal} (pick (not b) (Err Refusal.not_scalar) (pick (not c) (Err Refusal.not_scalar) (Ok tt))) (pick (b && c) (Ok tt) (Err Refusal.not_scalar))
             both_tests true true = refl
             both_tests true false = refl
             both_tests false c = refl
 
         by_values : all_good (context ∷ gs) ≡ false → Goal
         unfolding start need
-        by_values c = refused_by Refusal.not_scalar (λ z. omega arith) (number_is_lem ∙ ap (λ b. pick b 0 Refusal.not_scalar) c) (rw (idle, known, many, c) refl)
+        by_values c = refused_by Refusal.not_scalar (checked-is ∙ ap (λ b. pick b (Ok tt) (Err Refusal.not_scalar)) c) (rw (idle, known, many, c) refl)
 
         begins : all_good (context ∷ gs) ≡ true → Goal
         begins c =
             let good = good-all (context ∷ gs) (both_fine fine all-fine) c in
             let lab = f.labelled in
             let limits = f.function_within n inside in
-            let zero_number : number ≡ 0 = number_is_lem ∙ ap (λ b. pick b 0 Refusal.not_scalar) c in
+            let passed : checked ≡ Ok tt = checked-is ∙ ap (λ b. pick b (Ok tt) (Err Refusal.not_scalar)) c in
             let a =
-            start_agrees P s (items_of s).labels (items_of s).functions t.memory t.variables m.next n (variables_in t.variables) context gs sound-all.0 sound-all.1.counted known many c good.0 good.1
+            start_agrees P s i.labels i.functions t.memory t.variables m.next n (variables_in t.variables) context gs sound-all.0 sound-all.1.counted known many c good.0 good.1
             callee (function_in P f.variables F limits) (omega (arith, lab.room, limits.entry)) (lab.leads F.entry limits.entry) (lab.within F.entry limits.entry) in (
-              ap (λ j. entered_turn m (answer_by j)) zero_number ∙ start-turn t a
+              ap (λ j. entered_turn m (answer_by j)) passed ∙ start-turn t a
                   ∙ ap (λ (b : Bool). changes (seen t) done (start believed P n context gs (record { memory = view t.memory; running = b; place = m.next; vars = variables_in t.variables }))) (sym idle),
-              ap (λ j. sound_of (entered_state m (answer_by j))) zero_number ∙ start-sound t so bytes a,
-              subst (λ j. AreBytes (answer_by j).store) (sym zero_number) (start_bytes_kept t bytes a),
-              subst (λ j. Stays t (answer_by j)) (sym zero_number) (start-stays t a),
+              ap (λ j. sound_of (entered_state m (answer_by j))) passed ∙ start-sound t so bytes a,
+              subst (λ j. AreBytes (answer_by j).store) (sym passed) (start_bytes_kept t bytes a),
+              subst (λ j. Stays t (answer_by j)) (sym passed) (start-stays t a),
             )
 
   joined : Goal
@@ -297,16 +299,16 @@ module _ (t : State) (so : sound_of t ≡ true) (bytes : AreBytes t.memory.store
 
   pub start-enters : entered_turn m (start_entered s n lent (tags_of gs) (bits_of gs) t) ≡ enter (to_start P n context gs) (seen t)
   unfolding start_entered start_loaded ask
-  start-enters = rw (loaded-end s P e h, so, asked t so bytes (to_start P n context gs)) joined.0
+  start-enters = rw (tables-given s P e h, so, asked t so bytes (to_start P n context gs)) joined.0
 
   pub start-kept : sound_of (entered_state m (start_entered s n lent (tags_of gs) (bits_of gs) t)) ≡ true
   unfolding start_entered start_loaded
-  start-kept = rw (loaded-end s P e h, so) joined.1
+  start-kept = rw (tables-given s P e h, so) joined.1
 
   pub start-bytes : AreBytes (start_entered s n lent (tags_of gs) (bits_of gs) t).store
   unfolding start_entered start_loaded
-  start-bytes = rw (loaded-end s P e h, so) joined.2
+  start-bytes = rw (tables-given s P e h, so) joined.2
 
   pub start_untouched : Stays t (start_entered s n lent (tags_of gs) (bits_of gs) t)
   unfolding start_entered start_loaded
-  start_untouched = rw (loaded-end s P e h, so) joined.3
+  start_untouched = rw (tables-given s P e h, so) joined.3

@@ -1,6 +1,8 @@
 -- A state's tables as the machine a reader believes, and what an instruction's answer says of it, with the tables after it.
-use Rattle.std.specs.Prelude.{ℕ, min, length, true, ◌&&◌, ◌≡◌, List}
+use Rattle.std.specs.Prelude.{ℕ, min, length, true, ◌&&◌, ◌≡◌, List, Result, Ok, Err, Some, None}
+use Rattle.std.specs.Prelude as Code
 use Rattle.std.proofs.Math.Option.{Option, none, some}
+use Rattle.value.specs.declared.refusal.Refusal.{Refusal}
 use Rattle.value.specs.Answer.{Answer, ok, refused}
 use Rattle.value.specs.Value.{Value, tag}
 use Rattle.memory.specs.Memory.{Memory}
@@ -14,7 +16,7 @@ use Rattle.machine.specs.Sound as Sound
 use Rattle.instruction.specs.Variables.{found}
 use Rattle.instruction.specs.declared.variables.Found.{Found}
 use Rattle.instruction.specs.declared.step.Progress.{Progress}
-use Rattle.instruction.specs.declared.step.Progress.TheVariants.{Next, Ended, Refused}
+use Rattle.instruction.specs.declared.step.Progress.TheVariants.{Next, Ended}
 use Rattle.image.specs.Limits.{AreBytes}
 
 -- the memory by its view, and the rest of the machine beside it
@@ -30,20 +32,21 @@ seen s = record {
 abbrev pub SoundAsSeen : Type 0
 SoundAsSeen = (s : State) → AreBytes s.memory.store → sound_of s ≡ (well_encoded s && Sound.sound (seen s))
 
--- the last Return's value; tag 0 is none
-abbrev pub returned_in : Found → Option Value
-returned_in v = stored_value v.tag v.bits
+-- the last Return's value, if it had one
+abbrev pub returned_in : Code.Option Found → Option Value
+returned_in None = none
+returned_in (Some v) = stored_value v.tag v.bits
 
--- and the tag and bits that tell it, 0 and 0 for none
-abbrev pub found_if : Option Value → Found
-found_if none = found 0 0
-found_if (some v) = found (tag v.kind) v.bits
+-- and the tag and bits that tell it
+abbrev pub found_if : Option Value → Code.Option Found
+found_if none = None
+found_if (some v) = Some (found (tag v.kind) v.bits)
 
 -- `after` is the state with the tables as they are left and these registers
-abbrev pub outcome : Progress → (after : Registers → State) → Answer (Stepped Memory)
-outcome (Next m) after = ok (went (seen (after m)))
-outcome (Ended m v) after = ok (ended (returned_in v) (seen (after m)))
-outcome (Refused n) after = refused n
+abbrev pub outcome : Result Progress Refusal → (after : Registers → State) → Answer (Stepped Memory)
+outcome (Ok (Next m)) after = ok (went (seen (after m)))
+outcome (Ok (Ended m v)) after = ok (ended (returned_in v) (seen (after m)))
+outcome (Err n) after = refused n
 
 -- a state in which a step is defined: sound, running, and its store made of bytes
 pub record Runs (s : State) : Type 0 where
@@ -53,13 +56,13 @@ pub record Runs (s : State) : Type 0 where
 
 -- the state after is sound again and its store made of bytes, and it runs unless it has ended: then its value has the tag and bits that tell it;
 -- "A refusal leaves state and lent buffers untouched"
-abbrev pub Kept : (before : State) → Progress → (after : Registers → State) → Type 0
-Kept s (Next m) after = Runs (after m)
-Kept s (Ended m v) after = (sound_of (after m) ≡ true) × AreBytes (after m).memory.store × (v ≡ found_if (returned_in v))
-Kept s (Refused n) after = after s.memory.registers ≡ s
+abbrev pub Kept : (before : State) → Result Progress Refusal → (after : Registers → State) → Type 0
+Kept s (Ok (Next m)) after = Runs (after m)
+Kept s (Ok (Ended m v)) after = (sound_of (after m) ≡ true) × AreBytes (after m).memory.store × (v ≡ found_if (returned_in v))
+Kept s (Err n) after = after s.memory.registers ≡ s
 
 -- the answer and the tables after it are the believed machine's answer, and sound
-pub record Agrees (before : State) (answer : Progress) (after : Registers → State) (believed : Answer (Stepped Memory)) : Type 0 where
+pub record Agrees (before : State) (answer : Result Progress Refusal) (after : Registers → State) (believed : Answer (Stepped Memory)) : Type 0 where
   pub same : outcome answer after ≡ believed
   pub kept : Kept before answer after
 

@@ -1,17 +1,19 @@
 -- What a call of each C function gives: the number it answers, and every word and byte that was lent to it.
-use Rattle.std.specs.Prelude.{ℕ, List, length, eqb}
+use Rattle.std.specs.Prelude.{ℕ, List, length, eqb, Result, ⊤}
+use Rattle.value.specs.declared.refusal.Refusal.{Refusal}
 use Rattle.value.specs.Answer.{pick}
-use Rattle.value.specs.Refusal.{not_sound}
+use Rattle.value.specs.Refusal as refusal
 use Rattle.image.specs.Image.{loaded}
 use Rattle.image_writer.specs.Answer.{outcome, buffer}
 use Rattle.memory.specs.declared.Registers.{Registers}
 use Rattle.memory.specs.Tables.{State, state, tables, Both, both, All, Out, Columns, columns, Listing, fresh_of}
 use Rattle.instruction.specs.declared.variables.Found.{Found}
 use Rattle.run.specs.Run.{Running}
+use Rattle.run.specs.declared.Ran.{Ran}
+use Rattle.eval.specs.declared.entry.EntryError.{EntryError}
 use Rattle.eval.specs.Entry.{Entering, Reading, run_entered, step_entered, read_entered}
 use Rattle.eval.specs.Start.{start_entered}
 use Rattle.eval.specs.Host.{host_allocated, host_written, host_listed}
-use Rattle.memory.specs.declared.Outcome.{Outcome}
 use Rattle.replies.specs.declared.words.Reply.{Reply}
 use Rattle.replies.specs.Words.{registers_in, words_of, reply_words, shaped_of, reply_moved, reply_entered, reply_run, reply_given, reply_read, reply_written, number_of}
 use Rattle.eval.specs.After.{after_moved, after_entered, after_run, after_given}
@@ -44,7 +46,7 @@ state_of l = state (tables (registers_of l) l.store l.frames l.bounds l.pointers
 
 -- a call whose registers and answer have their lengths; any other is refused, and nothing is changed
 abbrev pub if_shaped : Lent → Gave → Gave
-if_shaped l g = pick (shaped_of (length l.registers) (length l.answer)) g (gave not_sound l)
+if_shaped l g = pick (shaped_of (length l.registers) (length l.answer)) g (gave (refusal.number_of refusal.not_sound) l)
 
 -- registers and reply as words, beside the tables
 abbrev pub giving : Reply → Registers → (store frames bounds pointers variables : List ℕ) → Gave
@@ -67,7 +69,7 @@ start_called s n context ts bs l = if_shaped l (entered_gave (registers_of l) (s
 unfoldable pub step_called : (image : List ℕ) → Lent → Gave
 step_called s l = if_shaped l (entered_gave (registers_of l) (step_entered s (state_of l)))
 
-abbrev pub ran_gave : Registers → Running → Gave
+abbrev pub ran_gave : Registers → Running (Result Ran EntryError) → Gave
 ran_gave m r = giving (reply_run r.answer) (after_run r.answer m) r.store r.frames r.bounds r.pointers r.variables
 
 unfoldable pub run_called : (image : List ℕ) → (budget : ℕ) → Lent → Gave
@@ -82,12 +84,12 @@ unfoldable pub allocate_called : (size : ℕ) → Lent → Gave
 allocate_called size l = if_shaped l (made_gave (registers_of l) l.variables (host_allocated (state_of l) size))
 
 -- a number, and the bytes of the store
-abbrev pub numbered : Both Outcome → Both ℕ
+abbrev pub numbered : Both (Result ⊤ Refusal) → Both ℕ
 numbered r = both (number_of r.answer) r.table
 
 unfoldable pub write_called : (p : ℕ) → (bytes registers : List ℕ) → (store frames bounds pointers variables : List ℕ) → Both ℕ
 write_called n bytes r s f b p v =
-    pick (eqb (length r) 5) (numbered (host_written (state (tables (registers_in r) s f b p) v) n bytes)) (both not_sound s)
+    pick (eqb (length r) 5) (numbered (host_written (state (tables (registers_in r) s f b p) v) n bytes)) (both (refusal.number_of refusal.not_sound) s)
 
 -- a number, the words of the answer, and the bytes of a buffer
 pub record Filled : Type 0 where
@@ -106,10 +108,10 @@ read_gave r = filling (reply_read r.answer) r.bytes
 
 unfoldable pub read_called : (image : List ℕ) → (p : ℕ) → (buffer : List ℕ) → Lent → Filled
 read_called s p buffer l =
-    pick (shaped_of (length l.registers) (length l.answer)) (read_gave (read_entered s p buffer (state_of l))) (filled not_sound l.answer buffer)
+    pick (shaped_of (length l.registers) (length l.answer)) (read_gave (read_entered s p buffer (state_of l))) (filled (refusal.number_of refusal.not_sound) l.answer buffer)
 
 unfoldable pub image_called : (image buffer answer : List ℕ) → Filled
-image_called s b a = pick (eqb (length a) 4) (filling (reply_written (outcome (loaded s) b)) (buffer (loaded s) b)) (filled not_sound a b)
+image_called s b a = pick (eqb (length a) 4) (filling (reply_written (outcome (loaded s) b)) (buffer (loaded s) b)) (filled (refusal.number_of refusal.not_sound) a b)
 
 -- a number, and the slices of the live list
 pub record Listed : Type 0 where
@@ -124,4 +126,4 @@ list_gave r = record { number = number_of r.answer; slices = r.slices }
 
 unfoldable pub list_called : (registers store frames bounds pointers variables : List ℕ) → (live frame allocation offset : List ℕ) → Listed
 list_called r s f b p v live frame allocation offset =
-    pick (eqb (length r) 5) (list_gave (host_listed (state (tables (registers_in r) s f b p) v) live frame allocation offset)) (listed not_sound live frame allocation offset)
+    pick (eqb (length r) 5) (list_gave (host_listed (state (tables (registers_in r) s f b p) v) live frame allocation offset)) (listed (refusal.number_of refusal.not_sound) live frame allocation offset)

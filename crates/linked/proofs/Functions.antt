@@ -1,4 +1,5 @@
 -- Each C function is promise's call: its definition gives the call's answer in words, and the registers that stay are the words that were lent.
+use Rattle.std.specs.Prelude.{Result, Ok, Err, ⊤}
 use Prim.Native.Nat.{ℕ}
 use mathlib.Core.Bool.{true}
 use mathlib.Core.Path.{◌≡◌, refl, sym, ap, ap₂}
@@ -6,19 +7,17 @@ use mathlib.Core.List.{List}
 use lib.ListN.{length}
 use lib.Dec.{eqb}
 use borrow.Author.Tests.{eqb-true}
+use Rattle.value.specs.declared.refusal.Refusal.{Refusal}
 use Rattle.value.proofs.Truth.{both_true}
 use Rattle.memory.specs.Live.{Live}
 use Rattle.memory.specs.Tables.{State, Columns}
 use Rattle.memory.specs.View.{tab, live_in}
-use Rattle.memory.specs.declared.Outcome.{Outcome}
-use Rattle.memory.specs.declared.Outcome.TheVariants as outcome
 use Rattle.memory.proofs.Every.{by_test}
 use Rattle.machine.specs.Asks.{lists, refusal}
 use Rattle.eval.specs.Entry.{Reading, read_entered}
 use Rattle.eval.specs.Host.{host_allocated, host_written, host_listed}
-use Rattle.eval.specs.declared.entry.Readout.{Readout}
-use Rattle.eval.specs.declared.entry.Readout.TheVariants as readout
-use Rattle.agree.specs.Turns.{written_reply, read_reply, listed_reply}
+use Rattle.eval.specs.declared.entry.EntryError.{EntryError}
+use Rattle.agree.specs.Turns.{refusal_of, written_reply, read_reply, listed_reply}
 use Rattle.promise.specs.Calls.{call_allocate, call_write, call_read, call_start, call_step, call_run, call_list, call}
 use Rattle.promise.proofs.Untouched.{buffers_stay, slices_stay}
 use Rattle.replies.specs.Words.{reply_words, shaped_of, number_of}
@@ -39,13 +38,13 @@ five l h = eqb-true _ 5 (both_true (eqb (length l.registers) 5) (eqb (length l.a
 abbrev saying : State → Reply → Gave
 saying t w = gave w.number (holding t (reply_words w))
 
-write-number : (a : Outcome) → number_of a ≡ (told (written_reply a)).number
-write-number outcome.Done = refl
-write-number (outcome.Refused k) = refl
+write-number : (a : Result ⊤ Refusal) → number_of a ≡ (told (written_reply a)).number
+write-number (Ok u) = refl
+write-number (Err k) = refl
 
-list_number : (n : ℕ) (a : Outcome) (c : Columns) → number_of a ≡ (told (listed_reply n a c)).number
-list_number n outcome.Done c = refl
-list_number n (outcome.Refused k) c = refl
+list_number : (n : ℕ) (a : Result ⊤ Refusal) (c : Columns) → number_of a ≡ (told (listed_reply n a c)).number
+list_number n (Ok u) c = refl
+list_number n (Err k) c = refl
 
 pub functions_are_calls : FunctionsAreCalls
 unfolding allocate_called write_called read_called start_called step_called run_called list_called
@@ -79,13 +78,12 @@ reads_fill s p buffer l =
     (λ h. rw h (go (read_entered s p buffer (state_of l)) (buffers_stay s p buffer (state_of l))))
     (λ h. rw h refl)
   where
-    go : (r : Reading) → ((n : ℕ) → read_reply r.answer r.bytes ≡ refusal n → r.bytes ≡ buffer) → r.bytes ≡ bytes_in (read_reply r.answer r.bytes) buffer
+    go : (r : Reading) → ((n : Refusal) → read_reply r.answer r.bytes ≡ refusal n → r.bytes ≡ buffer) → r.bytes ≡ bytes_in (read_reply r.answer r.bytes) buffer
     go r f = by r.answer f
       where
-        by : (a : Readout) → ((n : ℕ) → read_reply a r.bytes ≡ refusal n → r.bytes ≡ buffer) → r.bytes ≡ bytes_in (read_reply a r.bytes) buffer
-        by readout.Done f = refl
-        by (readout.Refused k) f = f k refl
-        by (readout.NotLoaded k q) f = f k refl
+        by : (a : Result ⊤ EntryError) → ((n : Refusal) → read_reply a r.bytes ≡ refusal n → r.bytes ≡ buffer) → r.bytes ≡ bytes_in (read_reply a r.bytes) buffer
+        by (Ok u) f = refl
+        by (Err e) f = f (refusal_of e) refl
 
 pub lists_show : ListsShow
 unfolding list_called
@@ -93,6 +91,6 @@ lists_show l h live frame allocation offset =
     let r = host_listed (state_of l) live frame allocation offset in
     record { listed = rw h (by (state_of l).memory.registers.pointers r.answer r.slices); stays = rw h (slices_stay live frame allocation offset (state_of l)) }
   where
-    by : (n : ℕ) (a : Outcome) (c : Columns) (ls : List Live) → listed_reply n a c ≡ lists ls → tab n (live_in c) ≡ ls
-    by n outcome.Done c ls e = cc
-    by n (outcome.Refused k) c ls e = cc
+    by : (n : ℕ) (a : Result ⊤ Refusal) (c : Columns) (ls : List Live) → listed_reply n a c ≡ lists ls → tab n (live_in c) ≡ ls
+    by n (Ok u) c ls e = cc
+    by n (Err k) c ls e = cc

@@ -1,19 +1,21 @@
 -- Demand 3 of lir_read: its number is that of promise's reply, which is 0 exactly where bytes are granted, and then these are in the buffer.
+use Rattle.std.specs.Prelude.{Result, Ok, Err, ⊤}
 use Prim.Native.Nat.{ℕ}
 use native.Mathlib.Omega.{arith}
 use mathlib.Core.Path.{◌≡◌, refl, sym, ap, ◌∙◌}
 use mathlib.Core.Logic.{◌≢◌}
 use mathlib.Core.List.{List}
 use lib.ListN.{get_or}
+use Rattle.value.specs.declared.refusal.Refusal.{Refusal}
 use Rattle.value.specs.Answer.{pick}
+use Rattle.value.specs.Refusal.{number_of}
 use Rattle.image.specs.Program.{Program}
 use Rattle.machine.specs.Asks.{Ask, Reply, bytes, refusal}
 use Rattle.machine.specs.History.{History}
 use Rattle.machine.specs.Demand.{Why, never_given, ended, too_long, uneven, not-here, past-constant}
 use Rattle.eval.specs.Entry.{read_entered}
-use Rattle.eval.specs.declared.entry.Readout.{Readout}
-use Rattle.eval.specs.declared.entry.Readout.TheVariants as readout
-use Rattle.agree.specs.Turns.{read_reply}
+use Rattle.eval.specs.declared.entry.EntryError.{EntryError}
+use Rattle.agree.specs.Turns.{refusal_of, read_reply}
 use Rattle.promise.specs.Calls.{Call, call_read, AllLent, Tells}
 use Rattle.promise.specs.Promised.{After, Image, read_of}
 use Rattle.promise.proofs.Told.{code_grants_exactly_when_right, code_reads_last_stored, code_refuses_with_its_number}
@@ -23,8 +25,8 @@ use Rattle.linked.specs.Linked.{Sized, ReadGrantsExactlyWhenRight, ReadFillsLast
 use Rattle.linked.proofs.Functions.{reads_fill}
 use Rattle.linked.proofs.Sequence.{Held, function-is, number_same, words-shaped, held_by, fresh-begins, fresh-held, functions_follow}
 
--- no refusal of a read is 0
-why_some : {h : History} {P : Program} {p n k : ℕ} → Why h P p n k → k ≢ 0
+-- no refusal of a read has the number 0
+why_some : {h : History} {P : Program} {p n : ℕ} {k : Refusal} → Why h P p n k → number_of k ≢ 0
 why_some (never_given x) e = omega arith
 why_some (ended x y) e = omega arith
 why_some (too_long x y z) e = omega arith
@@ -32,10 +34,9 @@ why_some (uneven x y z w) e = omega arith
 why_some (not-here x y) e = omega arith
 why_some (past-constant x y z) e = omega arith
 
-by_number : (a : Readout) (bs : List ℕ) → ((k : ℕ) → read_reply a bs ≡ refusal k → k ≢ 0) → (told (read_reply a bs)).number ≡ 0 → (cs : List ℕ) × (read_reply a bs ≡ bytes cs)
-by_number readout.Done bs f e = (bs, refl)
-by_number (readout.Refused k) bs f e = absurd (f k refl e)
-by_number (readout.NotLoaded k q) bs f e = absurd (f k refl e)
+by_number : (a : Result ⊤ EntryError) (bs : List ℕ) → ((k : Refusal) → read_reply a bs ≡ refusal k → number_of k ≢ 0) → (told (read_reply a bs)).number ≡ 0 → (cs : List ℕ) × (read_reply a bs ≡ bytes cs)
+by_number (Ok u) bs f e = (bs, refl)
+by_number (Err d) bs f e = absurd (f (refusal_of d) refl e)
 
 module _ (l : Lent) (z : Sized l) (cs : List Call) (w : AllLent cs) (as' : List Ask) (tell : Tells cs as') where
   abbrev now : Lent

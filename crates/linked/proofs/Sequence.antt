@@ -1,4 +1,5 @@
 -- Any C functions in any order are promise's calls: each leaves words of the right lengths and a store of bytes, so the next is a call too.
+use Rattle.std.specs.Prelude.{Result, Ok}
 use Prim.Native.Nat.{ℕ}
 use native.Mathlib.Omega.{arith}
 use mathlib.Core.Bool.{Bool, true, false}
@@ -7,15 +8,15 @@ use mathlib.Core.List.{List, [], ◌∷◌, map}
 use lib.ListN.{length}
 use lib.Dec.{eqb}
 use borrow.Author.Tests.{eq-eqb}
+use Rattle.value.specs.declared.refusal.Refusal.{Refusal}
 use Rattle.value.specs.Answer.{pick}
-use Rattle.value.specs.Refusal.{not_sound}
+use Rattle.value.specs.Refusal.{not_sound, number_of}
 use Rattle.image.specs.Parse.{Got, took, refused}
 use Rattle.image.specs.Program.{Program}
 use Rattle.image.specs.Image.{loaded}
 use Rattle.image.specs.Limits.{AreBytes}
+use Rattle.memory.specs.declared.Registers.{Registers}
 use Rattle.memory.specs.Tables.{State, state, tables, All, registers, fresh_of, sound_of}
-use Rattle.memory.specs.declared.Moved.{Moved}
-use Rattle.memory.specs.declared.Moved.TheVariants as moved
 use Rattle.memory.proofs.Every.{by_test}
 use Rattle.memory.proofs.Laws.{fresh-made}
 use Rattle.memory.proofs.Facts.{ready_test}
@@ -25,7 +26,7 @@ use Rattle.promise.specs.Calls.{Call, call_allocate, call_write, call_read, call
 use Rattle.promise.specs.Calls as Calls
 use Rattle.promise.specs.Promised.{Begun, begun}
 use Rattle.promise.proofs.Refused.{images_refused, unsound_refused}
-use Rattle.promise.proofs.Answers.{entries-answer}
+use Rattle.promise.proofs.Answers.{entries_answer}
 use Rattle.promise.proofs.Tells.{Told, asks, refuses}
 use Rattle.promise.proofs.Tells as Tells
 use Rattle.promise.proofs.Sequence.{fresh-begun}
@@ -56,10 +57,10 @@ call-shaped c l h = go (takes_answer c)
     go false = eq-eqb _ 5 h.registers
 
 pub function-is : (c : Call) → Calls.Lent c → (l : Lent) → Held l → function c l ≡ answering c l
-function-is c w l h = functions_are_calls c w l h.bytes ∙ ap (λ x. pick x (answering c l) (gave not_sound l)) (call-shaped c l h)
+function-is c w l h = functions_are_calls c w l h.bytes ∙ ap (λ x. pick x (answering c l) (gave (number_of not_sound) l)) (call-shaped c l h)
 
 -- a refused image has the number that loading gives
-loading_number : (s : List ℕ) (r : Reply) → ((n q : ℕ) → loaded s ≡ refused n q → r ≡ refusal n) → (placed (loaded s) (told r)).number ≡ (told r).number
+loading_number : (s : List ℕ) (r : Reply) → ((n : Refusal) (q : ℕ) → loaded s ≡ refused n q → r ≡ refusal n) → (placed (loaded s) (told r)).number ≡ (told r).number
 loading_number s r f = go (loaded s) refl
   where
     go : (x : Got Program) → loaded s ≡ x → (placed x (told r)).number ≡ (told r).number
@@ -83,7 +84,7 @@ bytes_left c w t b = go (Tells.told c w)
     unmoved e = subst (λ (x : Heard). AreBytes x.left.memory.store) (sym e) b
 
     go : Told c → AreBytes (call c t).left.memory.store
-    go (asks a q) = by_test (sound_of t) (λ so. (entries-answer c a q t (record { sound = so; bytes = b })).good.bytes) (λ so. unmoved (unsound_refused c a q t so))
+    go (asks a q) = by_test (sound_of t) (λ so. (entries_answer c a q t (record { sound = so; bytes = b })).good.bytes) (λ so. unmoved (unsound_refused c a q t so))
     go (refuses n q) = unmoved (images_refused c n q t)
 
 answer-long : (b : Bool) (w : Words.Reply) (a : List ℕ) → length a ≡ 4 → length (pick b (reply_words w) a) ≡ 4
@@ -126,7 +127,7 @@ fresh-is : (l : Lent) → Sized l → fresh_called l ≡ fresh_gave (registers_o
 unfolding fresh_called
 fresh-is l z = rw (words-shaped l z.registers z.answer) refl
 
-fresh-done : (l : Lent) → Sized l → (fresh_of l.store l.frames l.bounds l.pointers l.variables).answer ≡ moved.Done (registers 0 0 1 1 0)
+fresh-done : (l : Lent) → Sized l → (fresh_of l.store l.frames l.bounds l.pointers l.variables).answer ≡ Ok (registers 0 0 1 1 0)
 fresh-done l z =
     ap (λ (o : All). o.answer)
     (fresh-made l.store l.frames l.bounds l.pointers l.variables
@@ -136,10 +137,10 @@ pub fresh-begins : FreshBegins
 fresh-begins l z =
     let f = fresh_of l.store l.frames l.bounds l.pointers l.variables in
     record {
-      number = ap (λ (g : Gave). g.number) (fresh-is l z) ∙ ap (λ (a : Moved). (reply_moved a).number) (fresh-done l z);
+      number = ap (λ (g : Gave). g.number) (fresh-is l z) ∙ ap (λ (a : Result Registers Refusal). (reply_moved a).number) (fresh-done l z);
       begun =
           subst (λ (g : Gave). Begun (state_of g.lent)) (sym (fresh-is l z))
-          (subst (λ (a : Moved). Begun (state (tables (after_moved a (registers_of l)) f.store f.frames f.bounds f.pointers) f.variables)) (sym (fresh-done l z))
+          (subst (λ (a : Result Registers Refusal). Begun (state (tables (after_moved a (registers_of l)) f.store f.frames f.bounds f.pointers) f.variables)) (sym (fresh-done l z))
           (begun l.store l.frames l.bounds l.pointers l.variables z.store z.frames z.bounds z.pointers z.variables));
     }
 

@@ -1,6 +1,7 @@
 -- The C functions as a host calls them, one after the other, on what it lends; and beside them promise's calls, in the words of include/lir.h.
 use Rattle.std.specs.Prelude.{ℕ, Bool, true, false, List, [], ◌∷◌, length, eqb}
 use Rattle.value.specs.Answer.{pick}
+use Rattle.value.specs.Refusal.{number_of}
 use Rattle.image.specs.Parse.{Got, took, refused}
 use Rattle.image.specs.Program.{Program}
 use Rattle.image.specs.Image.{loaded}
@@ -9,7 +10,7 @@ use Rattle.machine.specs.Machine.{returned, paused, stopped}
 use Rattle.machine.specs.Asks as Asks
 use Rattle.agree.specs.Seen.{found_if}
 use Rattle.promise.specs.Calls.{Call, call_allocate, call_write, call_read, call_start, call_step, call_run, call_list, call}
-use Rattle.replies.specs.Words.{reply, counted_of, reply_words, shaped_of}
+use Rattle.replies.specs.Words.{counted_of, ended_of, reply_words, shaped_of}
 use Rattle.replies.specs.Words as Words
 use Rattle.replies.specs.declared.words.Reply.{Reply}
 use Rattle.embed.specs.Called.{Lent, lent, Gave, gave, state_of, start_called, step_called, run_called, allocate_called, write_called, Filled, read_called, Listed, list_called}
@@ -53,17 +54,17 @@ abbrev pub told : Asks.Reply → Reply
 told Asks.done = counted_of 0 0
 told (Asks.gave p) = counted_of 0 p
 told (Asks.bytes bs) = counted_of 0 0
-told (Asks.returned v) = reply 0 1 (found_if v).tag (found_if v).bits 0
-told (Asks.ran (returned v) n) = reply 0 1 (found_if v).tag (found_if v).bits n
+told (Asks.returned v) = ended_of (found_if v) 0
+told (Asks.ran (returned v) n) = ended_of (found_if v) n
 told (Asks.ran paused n) = counted_of 0 n
-told (Asks.ran (stopped k) n) = counted_of k n
+told (Asks.ran (stopped k) n) = counted_of (number_of k) n
 told (Asks.lists ls) = counted_of 0 0
-told (Asks.refusal k) = counted_of k 0
+told (Asks.refusal k) = counted_of (number_of k) 0
 
 -- "where an image is refused, the place": the machine's reply has none, so loading tells it
 abbrev pub placed : Got Program → Reply → Reply
 placed (took P end) r = r
-placed (refused number place) r = counted_of number place
+placed (refused why place) r = counted_of (number_of why) place
 
 abbrev pub in_words : Call → Asks.Reply → Reply
 in_words (call_allocate size) r = told r

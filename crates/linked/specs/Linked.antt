@@ -2,7 +2,8 @@
 -- `lir_write_image` is no call on a machine: its contract is by the image's own definitions.
 use Rattle.std.specs.Prelude.{ℕ, ◌+◌, ◌<◌, true, ◌≡◌, ◌↔◌, List, [], ◌∷◌, map, length, get_or, eqb}
 use Rattle.value.specs.Answer.{pick}
-use Rattle.value.specs.Refusal.{not_sound, outside_width}
+use Rattle.value.specs.declared.refusal.Refusal.{Refusal}
+use Rattle.value.specs.Refusal.{not_sound, outside_width, number_of}
 use Rattle.value.specs.Value.{u8, tag}
 use Rattle.image.specs.Program.{Program}
 use Rattle.image.specs.Limits.{AreBytes}
@@ -25,7 +26,7 @@ use Rattle.linked.specs.Functions.{list_of, function, numbers_by, lent_by, told,
 -- what each function returns and leaves is what promise's call of the same name answers and leaves; of wrong lengths, 10, and nothing is changed.
 -- Images, bytes to write and the store are bytes, as their types say.
 abbrev pub FunctionsAreCalls : Type 0
-FunctionsAreCalls = (c : Call) → Calls.Lent c → (l : Lent) → AreBytes l.store → function c l ≡ pick (shaped c l) (answering c l) (gave not_sound l)
+FunctionsAreCalls = (c : Call) → Calls.Lent c → (l : Lent) → AreBytes l.store → function c l ≡ pick (shaped c l) (answering c l) (gave (number_of not_sound) l)
 
 -- the buffer of lir_read, and the slices of lir_list: one record for each pointer
 abbrev pub ReadsFill : Type 0
@@ -35,7 +36,7 @@ ReadsFill = (s : List ℕ) (p : ℕ) (buffer : List ℕ) (l : Lent)
 pub record Shows (l : Lent) (live frame allocation offset : List ℕ) : Type 0 where
   pub listed : (ls : List Live) → (call (call_list live frame allocation offset) (state_of l)).reply ≡ lists ls
       → tab (registers_of l).pointers (live_in (list_of l live frame allocation offset).slices) ≡ ls
-  pub stays : (n : ℕ) → (call (call_list live frame allocation offset) (state_of l)).reply ≡ refusal n
+  pub stays : (n : Refusal) → (call (call_list live frame allocation offset) (state_of l)).reply ≡ refusal n
       → (list_of l live frame allocation offset).slices ≡ columns live frame allocation offset
 
 abbrev pub ListsShow : Type 0
@@ -88,7 +89,7 @@ ReadFillsLastStored = (l : Lent) → Sized l → (cs : List Call) → AllLent cs
 
 -- lir_start and lir_run on P1's image: their numbers, and the words ended, tag, bits, count
 pub record AnswersFirst (l : Lent) : Type 0 where
-  pub numbers : map (λ c. numbers_by (p1_calls c) (fresh_called l).lent) p1_cases ≡ (0 ∷ 0 ∷ []) ∷ (0 ∷ 0 ∷ []) ∷ (0 ∷ 0 ∷ []) ∷ (0 ∷ outside_width ∷ []) ∷ []
+  pub numbers : map (λ c. numbers_by (p1_calls c) (fresh_called l).lent) p1_cases ≡ (0 ∷ 0 ∷ []) ∷ (0 ∷ 0 ∷ []) ∷ (0 ∷ 0 ∷ []) ∷ (0 ∷ number_of outside_width ∷ []) ∷ []
   pub words : map (λ c. (lent_by (p1_calls c) (fresh_called l).lent).answer) p1_cases
       ≡ (1 ∷ tag u8 ∷ 42 ∷ 2 ∷ []) ∷ (0 ∷ 0 ∷ 0 ∷ 1 ∷ []) ∷ (0 ∷ 0 ∷ 0 ∷ 0 ∷ []) ∷ (0 ∷ 0 ∷ 0 ∷ 0 ∷ []) ∷ []
 

@@ -1,17 +1,17 @@
--- The table's records are those that `host_list` tells, and what `tell` answers is what the walk needs.
-use Prim.Native.Nat.{ℕ, ◌<◌, ◌≤◌}
+-- The table's records are those that `host_list` tells, and those that `live_list` makes one at a time.
+use Rattle.std.specs.Prelude.{Ok, Err}
+use Prim.Native.Nat.{ℕ, ◌+◌, ◌<◌, ◌≤◌}
 use native.Mathlib.Omega.{arith}
 use mathlib.Core.Bool.{Bool, true, false}
-use mathlib.Core.Path.{◌≡◌, refl, ap}
+use mathlib.Core.Path.{◌≡◌, refl, ap, ap₂, ◌∙◌}
 use mathlib.Core.List.{List}
-use lib.ListN.{get_or, length}
+use lib.ListN.{get_or, set, length}
 use lib.Dec.{leb, eqb}
-use borrow.Author.Tests.{leb-true}
+use Rattle.value.specs.declared.refusal.Refusal.{Refusal}
 use Rattle.value.specs.Refusal.{not_sound, short_table}
 use Rattle.value.proofs.Truth.{both_true}
 use Rattle.memory.specs.Tables.{State, Columns, pointer_at, record_of, memory_ok, roomy_of, sound_of}
 use Rattle.memory.specs.declared.LiveRecord.{LiveRecord}
-use Rattle.memory.specs.declared.Outcome.TheVariants as outcome
 use Rattle.memory.proofs.Every.{by_test}
 use Rattle.memory.proofs.Facts.{Sound, sound-of}
 use Rattle.memory.proofs.Last.{roomy_of_lem}
@@ -19,9 +19,10 @@ use Rattle.memory.proofs.Listing.{filled_at, listed-is}
 use Rattle.eval.specs.Host.{host_listed}
 use Rattle.live_list.specs.Record.{record_in}
 use Rattle.live_list.proofs.Listed.{recorded_in}
-use Rattle.live_table.specs.Table.{shown, record_at, filled, tabled_of, told, told_none, told_of}
+use Rattle.live_table.specs.Table.{shown, record_at, filled, tabled, tabled_of, Told, told, told_none, told_of}
 use Rattle.live_table.specs.declared.PointerRecord.{PointerRecord}
-use Rattle.live_table.specs.declared.Told.{Told}
+use Rattle.live_table.proofs.Filled.{filled_more}
+use borrow.Author.Tests.{le-leb, leb-true}
 
 pub sound-tables : (t : State) → sound_of t ≡ true → Sound t.memory
 unfolding sound_of
@@ -37,7 +38,7 @@ row_in c k = record { live = eqb (get_or c.live k 0) 1; frame = get_or c.frame k
 
 -- the list of a sound state, in slices with room for it
 module _ (t : State) (l f a o : List ℕ) (s : sound_of t ≡ true) (roomy : roomy_of t.memory.registers.pointers (length l) (length f) (length a) (length o) ≡ true) where
-  pub listed-done : (host_listed t l f a o).answer ≡ outcome.Done
+  pub listed-done : (host_listed t l f a o).answer ≡ Ok tt
   unfolding host_listed
   listed-done = rw s (listed-is t.memory (sound-tables t s) l f a o roomy).0
 
@@ -51,7 +52,32 @@ module _ (t : State) (l f a o : List ℕ) (s : sound_of t ≡ true) (roomy : roo
       (same_row (ap (λ x. eqb x 1) (filled_at n (λ q. (g q).live) l k h r.0)) (filled_at n (λ q. (g q).frame) f k h r.1)
       (filled_at n (λ q. (g q).allocation) a k h r.2) (filled_at n (λ q. (g q).offset) o k h r.3))
 
--- what the walk needs to know of what it was told: the answer is the definition's, and so is each record that it writes, which has its place
+-- ---- the table, a record more in each turn
+
+module _ (t : State) (l ys : List PointerRecord) (k : ℕ) where
+  abbrev n : ℕ
+  n = t.memory.registers.pointers
+
+  abbrev row : ℕ → PointerRecord
+  row = record_at t.memory
+
+  -- record k is the one that `live_list` makes
+  pub one-more : (x : PointerRecord) {r : LiveRecord} → sound_of t ≡ true → k < n → ys ≡ filled k row l → x ≡ shown r
+      → r ≡ record_in t.memory.registers.depth t.memory.frames t.memory.pointers k → set ys k x ≡ filled (k + 1) row l
+  unfolding record_at
+  one-more x s h so_far e d =
+      let so = (sound-tables t s).ready in
+      let is : x ≡ row k =
+      e ∙ ap shown (d ∙ recorded_in t.memory.registers.depth t.memory.frames t.memory.pointers k so.deep (omega (arith, h, so.given)) so.frames so.pointers) in
+      ap₂ (λ (zs : List PointerRecord) (y : PointerRecord). set zs k y) so_far is ∙ filled_more row l k
+
+  pub all_written : sound_of t ≡ true → n ≤ length l → k ≡ n → ys ≡ filled k row l → tabled (Ok tt) ys ≡ tabled_of t l
+  unfolding tabled_of
+  all_written s h e so_far = rw (s, le-leb n (length l) h, so_far, e) refl
+
+-- ---- the answer before the records
+
+-- what a walk needs to know of what it was told before the records: the answer is the definition's, and so is each record that it writes, which has its place
 pub record Tells (t : State) (room : ℕ) (r : Told) : Type 0 where
   pub answer : (l : List PointerRecord) → length l ≡ room → r.answer ≡ (tabled_of t l).answer
   pub table : (l : List PointerRecord) → length l ≡ room → filled r.count (record_at t.memory) l ≡ (tabled_of t l).table
@@ -59,13 +85,13 @@ pub record Tells (t : State) (room : ℕ) (r : Told) : Type 0 where
   pub rows : (k : ℕ) → k < r.count → shown (record_in t.memory.registers.depth t.memory.frames t.memory.pointers k) ≡ record_at t.memory k
 
 module _ (t : State) (room : ℕ) where
-  abbrev n : ℕ
-  n = t.memory.registers.pointers
+  abbrev given : ℕ
+  given = t.memory.registers.pointers
 
   -- a refusal, with nothing to write
-  none_told : (number : ℕ) → ((l : List PointerRecord) → length l ≡ room → tabled_of t l ≡ record { answer = outcome.Refused number; table = l }) → Tells t room (told_none number)
+  none_told : (why : Refusal) → ((l : List PointerRecord) → length l ≡ room → tabled_of t l ≡ record { answer = Err why; table = l }) → Tells t room (told_none why)
   unfolding filled
-  none_told number is =
+  none_told why is =
       record {
         answer = λ l h. rw (is l h) refl;
         table = λ l h. rw (is l h) refl;
@@ -73,11 +99,11 @@ module _ (t : State) (room : ℕ) where
         rows = λ k h. absurd (omega (arith, h));
       }
 
-  all_told : sound_of t ≡ true → leb n room ≡ true → Tells t room (told outcome.Done n)
+  all_told : sound_of t ≡ true → leb given room ≡ true → Tells t room (told (Ok tt) given)
   unfolding tabled_of record_at
   all_told s u =
       let so = (sound-tables t s).ready in
-      let wide : n ≤ room = leb-true n room u in
+      let wide : given ≤ room = leb-true given room u in
       record {
         answer = λ l h. rw (s, h, u) refl;
         table = λ l h. rw (s, h, u) refl;
@@ -85,7 +111,7 @@ module _ (t : State) (room : ℕ) where
         rows = λ k h. ap shown (recorded_in t.memory.registers.depth t.memory.frames t.memory.pointers k so.deep (omega (arith, h, so.given)) so.frames so.pointers);
       }
 
-  short_told : sound_of t ≡ true → leb n room ≡ false → Tells t room (told_none short_table)
+  short_told : sound_of t ≡ true → leb given room ≡ false → Tells t room (told_none short_table)
   unfolding tabled_of
   short_told s u = none_told short_table (λ l h. rw (s, h, u) refl)
 
@@ -95,4 +121,4 @@ module _ (t : State) (room : ℕ) where
 
   pub told-tells : Tells t room (told_of t room)
   unfolding told_of
-  told-tells = by_test (sound_of t) (λ s. by_test (leb n room) (λ u. rw (s, u) (all_told s u)) (λ u. rw (s, u) (short_told s u))) (λ s. rw s (unsound_told s))
+  told-tells = by_test (sound_of t) (λ s. by_test (leb given room) (λ u. rw (s, u) (all_told s u)) (λ u. rw (s, u) (short_told s u))) (λ s. rw s (unsound_told s))

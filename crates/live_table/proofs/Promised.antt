@@ -1,4 +1,5 @@
 -- Demand 3's live list is the table's: the table shows, record by record, what `host_list` tells in slices as long as the table, so `code_lists_as_told` says what it shows.
+use Rattle.std.specs.Prelude.{Result, Ok, Err, ⊤}
 use Prim.Native.Nat.{ℕ, ◌≤◌, min}
 use native.Mathlib.Nat.{le-min}
 use mathlib.Core.Bool.{true, false}
@@ -7,11 +8,10 @@ use mathlib.Core.List.{List}
 use lib.ListN.{get_or, length, replicate, length-replicate}
 use lib.Dec.{leb}
 use borrow.Author.Tests.{leb-true}
+use Rattle.value.specs.declared.refusal.Refusal.{Refusal}
 use Rattle.memory.specs.Live.{Live, listed}
 use Rattle.memory.specs.View.{tab, live_in}
 use Rattle.memory.specs.Tables.{State, roomy_of, listed_of, sound_of}
-use Rattle.memory.specs.declared.Outcome.{Outcome}
-use Rattle.memory.specs.declared.Outcome.TheVariants as outcome
 use Rattle.memory.proofs.Every.{by_test}
 use Rattle.memory.proofs.Facts.{ready_test}
 use Rattle.memory.proofs.Tab.{tab-same}
@@ -35,9 +35,9 @@ abbrev none : PointerRecord
 none = record { live = false; frame = 0; allocation = 0; offset = 0 }
 
 -- what a host reads in the table after an answer
-abbrev pub table_reply : (pointers : ℕ) → Outcome → List PointerRecord → Reply
-table_reply n outcome.Done l = lists (tab n (λ p. live_of (get_or l p none)))
-table_reply n (outcome.Refused number) l = refusal number
+abbrev pub table_reply : (pointers : ℕ) → Result ⊤ Refusal → List PointerRecord → Reply
+table_reply n (Ok u) l = lists (tab n (λ p. live_of (get_or l p none)))
+table_reply n (Err why) l = refusal why
 
 module _ (t : State) (ys : List PointerRecord) where
   abbrev n : ℕ

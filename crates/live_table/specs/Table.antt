@@ -1,13 +1,11 @@
 -- "A lent table of records, one for each pointer number, rising: live or not, frame index, allocation, offset."
-use Rattle.std.specs.Prelude.{ℕ, zero, suc, List, set, length, leb, eqb}
+use Rattle.std.specs.Prelude.{ℕ, zero, suc, List, set, length, leb, eqb, Result, Ok, Err, ⊤}
+use Rattle.value.specs.declared.refusal.Refusal.{Refusal}
 use Rattle.value.specs.Answer.{pick}
 use Rattle.value.specs.Refusal.{not_sound, short_table}
 use Rattle.memory.specs.Tables.{Tables, State, pointer_at, record_of, sound_of}
 use Rattle.memory.specs.declared.LiveRecord.{LiveRecord}
-use Rattle.memory.specs.declared.Outcome.{Outcome}
-use Rattle.memory.specs.declared.Outcome.TheVariants as outcome
 use Rattle.live_table.specs.declared.PointerRecord.{PointerRecord}
-use Rattle.live_table.specs.declared.Told.{Told}
 
 -- a record of the live list, as the table has it
 abbrev pub shown : LiveRecord → PointerRecord
@@ -24,10 +22,10 @@ filled (suc n) f l = set (filled n f l) n (f n)
 
 -- an answer, with the table
 pub record Tabled : Type 0 where
-  pub answer : Outcome
+  pub answer : Result ⊤ Refusal
   pub table : List PointerRecord
 
-abbrev pub tabled : Outcome → List PointerRecord → Tabled
+abbrev pub tabled : Result ⊤ Refusal → List PointerRecord → Tabled
 tabled r l = record { answer = r; table = l }
 
 -- "10 state not sound", then "41 list table shorter than the pointers"; "An answer shorter than its lent buffer or table leaves the rest of it as it stood."
@@ -35,19 +33,24 @@ unfoldable pub tabled_of : State → List PointerRecord → Tabled
 tabled_of t l =
     pick (sound_of t)
     (pick (leb t.memory.registers.pointers (length l))
-    (tabled outcome.Done (filled t.memory.registers.pointers (record_at t.memory) l))
-    (tabled (outcome.Refused short_table) l))
-    (tabled (outcome.Refused not_sound) l)
+    (tabled (Ok tt) (filled t.memory.registers.pointers (record_at t.memory) l))
+    (tabled (Err short_table) l))
+    (tabled (Err not_sound) l)
 
 -- ---- the answer before the records
 
-abbrev pub told : Outcome → (count : ℕ) → Told
+-- an answer, and how many records go to the table
+pub record Told : Type 0 where
+  pub answer : Result ⊤ Refusal
+  pub count : ℕ
+
+abbrev pub told : Result ⊤ Refusal → (count : ℕ) → Told
 told r n = record { answer = r; count = n }
 
-abbrev pub told_none : (number : ℕ) → Told
-told_none number = told (outcome.Refused number) 0
+abbrev pub told_none : (why : Refusal) → Told
+told_none why = told (Err why) 0
 
 -- the answer for a table with this room, and how many records go to it
 unfoldable pub told_of : State → (room : ℕ) → Told
 told_of t room =
-    pick (sound_of t) (pick (leb t.memory.registers.pointers room) (told outcome.Done t.memory.registers.pointers) (told_none short_table)) (told_none not_sound)
+    pick (sound_of t) (pick (leb t.memory.registers.pointers room) (told (Ok tt) t.memory.registers.pointers) (told_none short_table)) (told_none not_sound)

@@ -42,8 +42,8 @@ module _ (t : State) (good : Good t) where
     good = record { sound = write_kept t good.sound good.bytes p bs; bytes = write_bytes_lem t good.sound good.bytes p bs f };
   }
 
-  pub list-answers : (l f a o : List ℕ) → Answers (call_list l f a o) (to_list (room l f a o)) t
-  list-answers l f a o = record { same = list_enters t good.sound good.bytes l f a o; good = good }
+  pub list_answers : (l f a o : List ℕ) → Answers (call_list l f a o) (to_list (room l f a o)) t
+  list_answers l f a o = record { same = list_enters t good.sound good.bytes l f a o; good = good }
 
   -- with an image that was loaded
   module _ (s : List ℕ) (whole : AreBytes s) (P : Program) (e : ℕ) (h : loaded s ≡ took P e) where
@@ -82,17 +82,17 @@ same-answers {s} {f} {context} {context'} {ts} {ts'} {bs} {bs'} {a} {t} e g =
       good = subst (λ (x : Entering). Good (entered_state m x)) (sym e) g.good;
     }
 
-pub entries-answer : EntriesAnswer
-entries-answer c a (allocating {n}) t g = allocate-answers t g n
-entries-answer c a (writing {p} {bs} b) t g = write-answers t g p bs b
-entries-answer c a (reading {s} {P} {e} {p} {buffer} b h) t g = read-answers t g s b P e h p buffer
-entries-answer c a (starting {s} {P} {e} {f} {context} {gs} spare b h v) t g =
+pub entries_answer : EntriesAnswer
+entries_answer c a (allocating {n}) t g = allocate-answers t g n
+entries_answer c a (writing {p} {bs} b) t g = write-answers t g p bs b
+entries_answer c a (reading {s} {P} {e} {p} {buffer} b h) t g = read-answers t g s b P e h p buffer
+entries_answer c a (starting {s} {P} {e} {f} {context} {gs} spare b h v) t g =
     let same = spare_unused s f (found (tag context.kind) context.bits) (tags_of gs) (bits_of gs) spare t (equal_lengths gs) in
     same-answers same (start-answers t g s b P e h f context gs v)
-entries-answer c a (misgiven {s} {P} {e} {f} {context} {ts} {bs} b h v) t g =
+entries_answer c a (misgiven {s} {P} {e} {f} {context} {ts} {bs} b h v) t g =
     let bad = replicate (length ts) bad_char in
     same-answers (no_values s f context (found (tag char) 0xd800) ts bs (tags_of bad) (bits_of bad) t (bad-length (length ts)) v (bad-values (tags_of bad) (bits_of bad)))
     (start-answers t g s b P e h f bad_char bad (bad-given (length ts)))
-entries-answer c a (stepping {s} {P} {e} b h) t g = step-answers t g s b P e h
-entries-answer c a (running {s} {P} {e} {budget} b h) t g = run-answers t g s b P e h budget
-entries-answer c r (listing {l} {f} {a} {o}) t g = list-answers t g l f a o
+entries_answer c a (stepping {s} {P} {e} b h) t g = step-answers t g s b P e h
+entries_answer c a (running {s} {P} {e} {budget} b h) t g = run-answers t g s b P e h budget
+entries_answer c r (listing {l} {f} {a} {o}) t g = list_answers t g l f a o

@@ -11,7 +11,7 @@ use Rattle.agree.specs.Seen.{seen}
 use Rattle.agree.proofs.Whole.{sound_as_seen}
 use Rattle.promise.specs.Calls.{call, shown}
 use Rattle.promise.specs.Promised.{EncodedAnswer}
-use Rattle.promise.proofs.Answers.{entries-answer}
+use Rattle.promise.proofs.Answers.{entries_answer}
 use Rattle.promise.proofs.Refused.{unsound_refused}
 
 -- what is shown by well encoded tables that are not sound is not sound
@@ -22,5 +22,5 @@ pub encoded_answer : EncodedAnswer
 encoded_answer c a q t w b = go (sound_of t) refl
   where
     go : (x : Bool) → sound_of t ≡ x → shown (call c t) ≡ enter a (seen t)
-    go true e = (entries-answer c a q t (record { sound = e; bytes = b })).same
+    go true e = (entries_answer c a q t (record { sound = e; bytes = b })).same
     go false e = ap shown (unsound_refused c a q t e) ∙ sym (Machine.unsound_refused a (seen t) (unseen t w b e))

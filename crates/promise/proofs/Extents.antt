@@ -6,6 +6,7 @@ use mathlib.Core.Path.{◌≡◌, sym, ap, ap₂, ◌∙◌, subst}
 use mathlib.Core.List.{List}
 use lib.ListN.{get_or}
 use lib.Dec.{eqb}
+use Rattle.std.proofs.lemmas.Bool.{false≢true}
 use Rattle.memory.specs.Memory.{Memory, local}
 use Rattle.memory.specs.Tables.{State, frame_word, pointer_at}
 use Rattle.memory.specs.View.{view}
@@ -84,7 +85,7 @@ module _ (as' : List Ask) (t : State) (after : After as' t) (p f j o : ℕ) (tar
       let frame : q.id ≡ f = cc in
       record { index = sym level.1 ∙ ap (index_of (tells as')) frame; allocation = cc; offset = cc })
       (λ k. let told : of_constant q.index ≡ of_place f j o = sym (target_at s p ∙ ap forget (at ∙ seen-constant t.memory so q k)) ∙ target.1 in
-      absurd (let z : ◌≡◌ {A = ℕ} 0 1 = cc in omega arith))
+      absurd (false≢true cc))
 
 -- a granted access has its bytes from the allocation's bound and its own offset on, and below the next bound
 own : (d : ℕ) (fr bo : List ℕ) (q : PointerRecord) (i j o n at : ℕ) → Points q i j o → Accessed d fr bo q n at

@@ -1,4 +1,5 @@
 -- The tags and bits of a start: spare bits are not looked at, and all that are no values are refused alike, by 15 in its place.
+use Rattle.std.specs.Prelude.{Result, Ok, Err, ⊤}
 use Prim.Native.Nat.{ℕ, zero, suc, ◌<◌}
 use native.Mathlib.Omega.{arith}
 use mathlib.Core.Bool.{Bool, true, false, not, ◌&&◌}
@@ -7,17 +8,16 @@ use mathlib.Core.List.{List, [], ◌∷◌, ◌++◌}
 use lib.ListN.{length, replicate, length-append, length-map, length-replicate, get_or-append}
 use lib.Dec.{T, leb, eqb}
 use borrow.Author.Tests.{lt-ltb}
+use Rattle.value.specs.declared.refusal.Refusal.{Refusal}
 use Rattle.value.specs.Answer.{pick}
 use Rattle.value.specs.Refusal as Refusal
 use Rattle.value.specs.Value.{Value, char, tag, is_scalar}
 use Rattle.value.specs.Tags.{holds, held}
 use Rattle.value.proofs.Tags.{kind_of_tag}
-use Rattle.image.specs.declared.field.Step.{Step}
-use Rattle.image.specs.declared.field.Step.TheVariants as step
+use Rattle.image.specs.declared.number.Stop.{Stop}
+use Rattle.loader.specs.declared.load.Loaded.{Loaded}
 use Rattle.loader.specs.Tables.{loaded_from}
 use Rattle.memory.specs.declared.Registers.{Registers}
-use Rattle.memory.specs.declared.Place.{Place}
-use Rattle.memory.specs.declared.Place.TheVariants as place
 use Rattle.memory.specs.Tables.{State, every, sound_of}
 use Rattle.machine.specs.Sound.{all}
 use Rattle.machine.specs.Accepted.{given}
@@ -26,17 +26,17 @@ use Rattle.instruction.specs.Variables.{found, set_variable}
 use Rattle.instruction.specs.Decode.{field_at}
 use Rattle.instruction.specs.Code.{Stepped}
 use Rattle.instruction.specs.declared.variables.Found.{Found}
-use Rattle.instruction.specs.Storage.{unstepped}
 use Rattle.calls.specs.Fields.{callee_at, place_in, entry_of}
 use Rattle.calls.specs.Room.{room_in_of}
 use Rattle.calls.specs.Variables.{slots_pointed}
-use Rattle.calls.specs.Code.{slots_made_of}
+use Rattle.calls.specs.Code.{slots_made_of, where_room}
 use Rattle.calls.specs.Begin.{values_set, flagged_set, started_set, variables_set, with_slots, begun_in, begun_at, begun_of, tags_of, bits_of}
 use Rattle.calls.specs.declared.fields.Callee.{Callee}
+use Rattle.step.specs.Items.{Items}
 use Rattle.eval.specs.Loaded.{items_of}
 use Rattle.eval.specs.Entry.{Entering, stepped_from, staying}
-use Rattle.eval.specs.Start.{is_value, value_at, wanted_of, start_refusal, start_loaded, start_after, start_entered}
-use Rattle.eval.specs.declared.entry.Entered.TheVariants as entered
+use Rattle.eval.specs.Start.{is_value, value_at, wanted_of, start_refusal, where_none, start_loaded, start_after, start_entered}
+use Rattle.eval.specs.declared.entry.EntryError.TheVariants as entry
 use Rattle.promise.specs.Calls.{are_values}
 
 -- ---- spare bits
@@ -83,76 +83,81 @@ module _ (s : List ℕ) (n : ℕ) (context : Found) (ts bs spare : List ℕ) (t 
   unfolding begun_of begun_in
   begun_spare labels functions = let f = callee_at s (place_in functions n) in at_place (entry_of labels f) f
     where
-      at_place : (p : Place) (f : Callee) → begun_at t.memory t.variables s p f context ts (bs ++ spare) ≡ begun_at t.memory t.variables s p f context ts bs
-      at_place (place.At k) f =
+      at_place : (p : Result ℕ Refusal) (f : Callee) → begun_at t.memory t.variables s p f context ts (bs ++ spare) ≡ begun_at t.memory t.variables s p f context ts bs
+      at_place (Ok k) f =
           let m = t.memory in
-          let no = room_in_of m.registers s f (length m.store) m.frames m.bounds (length m.pointers) in
-          ap (λ (vs : List ℕ). pick (eqb no 0) (with_slots k (slots_made_of s f.count f.slots m) vs) (unstepped m t.variables no)) (variables_spare f m.registers.pointers t.variables)
-      at_place (place.Refused k) f = refl
+          let room = room_in_of m.registers s f (length m.store) m.frames m.bounds (length m.pointers) in
+          ap (λ (vs : List ℕ). where_room room m t.variables (with_slots k (slots_made_of s f.count f.slots m) vs)) (variables_spare f m.registers.pointers t.variables)
+      at_place (Err k) f = refl
 
-  number_spare : (m : Registers) (functions : List ℕ) → start_refusal m s functions n context ts (bs ++ spare) ≡ start_refusal m s functions n context ts bs
+  checks_spare : (m : Registers) (functions : List ℕ) → start_refusal m s functions n context ts (bs ++ spare) ≡ start_refusal m s functions n context ts bs
   unfolding start_refusal
-  number_spare m functions =
+  checks_spare m functions =
       let e = every-same (length ts) (value_at ts (bs ++ spare)) (value_at ts bs) (λ k l. value_spare ts bs spare k (omega arith)) in
-      ap (λ (b : Bool). pick (eqb m.running 1) Refusal.running
-      (pick (leb (length functions) n) Refusal.no_function
-      (pick (not (wanted_of (callee_at s (place_in functions n)) (length ts))) Refusal.wrong_arguments
-      (pick (not (is_value context.tag context.bits)) Refusal.not_scalar (pick (not b) Refusal.not_scalar 0))))) e
+      ap (λ (b : Bool). pick (eqb m.running 1) (Err Refusal.running)
+      (pick (leb (length functions) n) (Err Refusal.no_function)
+      (pick (not (wanted_of (callee_at s (place_in functions n)) (length ts))) (Err Refusal.wrong_arguments)
+      (pick (not (is_value context.tag context.bits)) (Err Refusal.not_scalar) (pick (not b) (Err Refusal.not_scalar) (Ok tt)))))) e
 
-  pub spare_unused : start_entered s n context ts (bs ++ spare) t ≡ start_entered s n context ts bs t
-  unfolding start_entered start_loaded
-  spare_unused = by_end (loaded_from s).end
-    where
-      by_end : (e : Step) → start_after e (items_of s) n context ts (bs ++ spare) t ≡ start_after e (items_of s) n context ts bs t
-      by_end (step.At e) =
-          let i = items_of s in
-          ap₂ (λ (no : ℕ) (w : Stepped). pick (sound_of t) (pick (eqb no 0) (stepped_from w) (staying (entered.Refused no) t)) (staying (entered.Refused Refusal.not_sound) t))
-          (number_spare t.memory.registers i.functions) (begun_spare i.labels i.functions)
-      by_end (step.Stop k p) = refl
+module _ (n : ℕ) (context : Found) (ts bs spare : List ℕ) (t : State) (h : length ts ≡ length bs) where
+  start_spare : (r : Result Loaded Stop) (i : Items) → start_after r i n context ts (bs ++ spare) t ≡ start_after r i n context ts bs t
+  unfolding start_loaded
+  start_spare (Ok l) i =
+      ap₂ (λ (c : Result ⊤ Refusal) (w : Stepped). pick (sound_of t) (where_none c t (stepped_from w)) (staying (Err (entry.Refused Refusal.not_sound)) t))
+      (checks_spare i.bytes n context ts bs spare t h t.memory.registers i.functions) (begun_spare i.bytes n context ts bs spare t h i.labels i.functions)
+  start_spare (Err e) i = refl
+
+pub spare_unused : (s : List ℕ) (n : ℕ) (context : Found) (ts bs spare : List ℕ) (t : State) → length ts ≡ length bs → start_entered s n context ts (bs ++ spare) t ≡ start_entered s n context ts bs t
+unfolding start_entered
+spare_unused s n context ts bs spare t h = start_spare n context ts bs spare t h (loaded_from s) (items_of s)
 
 -- ---- no values
 
--- the number is the same whatever they are, and not 0
-record Same (x y : ℕ) : Type 0 where
-  same : x ≡ y
-  some : eqb x 0 ≡ false
+-- both are refused, and alike
+record Same (x y : Result ⊤ Refusal) : Type 0 where
+  why : Refusal
+  first : x ≡ Err why
+  second : y ≡ Err why
 
-one_of : (a b c d d' e e' : Bool) → (d && e) ≡ false → (d' && e') ≡ false
-    → Same (pick a Refusal.running (pick b Refusal.no_function (pick c Refusal.wrong_arguments (pick (not d) Refusal.not_scalar (pick (not e) Refusal.not_scalar 0)))))
-    (pick a Refusal.running (pick b Refusal.no_function (pick c Refusal.wrong_arguments (pick (not d') Refusal.not_scalar (pick (not e') Refusal.not_scalar 0)))))
-one_of true b c d d' e e' h k = record { same = refl; some = refl }
-one_of false true c d d' e e' h k = record { same = refl; some = refl }
-one_of false false true d d' e e' h k = record { same = refl; some = refl }
-one_of false false false d d' e e' h k = record { same = last d e h ∙ sym (last d' e' k); some = ap (λ n. eqb n 0) (last d e h) }
+-- the checks of a start, the last two by whether the context and the arguments are values
+abbrev checks : (a b c d e : Bool) → Result ⊤ Refusal
+checks a b c d e =
+    pick a (Err Refusal.running) (pick b (Err Refusal.no_function) (pick c (Err Refusal.wrong_arguments) (pick (not d) (Err Refusal.not_scalar) (pick (not e) (Err Refusal.not_scalar) (Ok tt)))))
+
+one_of : (a b c d d' e e' : Bool) → (d && e) ≡ false → (d' && e') ≡ false → Same (checks a b c d e) (checks a b c d' e')
+one_of true b c d d' e e' h k = record { why = Refusal.running; first = refl; second = refl }
+one_of false true c d d' e e' h k = record { why = Refusal.no_function; first = refl; second = refl }
+one_of false false true d d' e e' h k = record { why = Refusal.wrong_arguments; first = refl; second = refl }
+one_of false false false d d' e e' h k = record { why = Refusal.not_scalar; first = last d e h; second = last d' e' k }
   where
-    last : (d e : Bool) → (d && e) ≡ false → pick (not d) Refusal.not_scalar (pick (not e) Refusal.not_scalar 0) ≡ Refusal.not_scalar
+    last : (d e : Bool) → (d && e) ≡ false → checks false false false d e ≡ Err Refusal.not_scalar
     last false e h = refl
     last true false h = refl
     last true true h = absurd (let z : ◌≡◌ {A = Bool} true false = h in let y : ◌≡◌ {A = ℕ} 0 1 = cc in omega arith)
 
-module _ (s : List ℕ) (n : ℕ) (context context' : Found) (ts bs ts' bs' : List ℕ) (t : State) (l : length ts ≡ length ts')
+module _ (n : ℕ) (context context' : Found) (ts bs ts' bs' : List ℕ) (t : State) (l : length ts ≡ length ts')
     (h : are_values context ts bs ≡ false) (k : are_values context' ts' bs' ≡ false) where
-  numbers-same : (m : Registers) (functions : List ℕ) → Same (start_refusal m s functions n context ts bs) (start_refusal m s functions n context' ts' bs')
+  checks_same : (m : Registers) (s functions : List ℕ) → Same (start_refusal m s functions n context ts bs) (start_refusal m s functions n context' ts' bs')
   unfolding start_refusal
-  numbers-same m functions =
+  checks_same m s functions =
       rw l
       (one_of (eqb m.running 1) (leb (length functions) n) (not (wanted_of (callee_at s (place_in functions n)) (length ts'))) (is_value context.tag context.bits) (is_value context'.tag context'.bits)
       (every (length ts') (value_at ts bs)) (every (length ts') (value_at ts' bs')) (rw l at h) k)
 
-  refused_alike : (x y : ℕ) (w w' : Entering) → Same x y → pick (eqb x 0) w (staying (entered.Refused x) t) ≡ pick (eqb y 0) w' (staying (entered.Refused y) t)
-  refused_alike x y w w' e =
-      let z : eqb y 0 ≡ false = ap (λ j. eqb j 0) (sym e.same) ∙ e.some in
-      rw (e.some, z) (ap (λ (j : ℕ). staying (entered.Refused j) t) e.same)
+  refused_alike : (x y : Result ⊤ Refusal) (w w' : Entering) → Same x y → where_none x t w ≡ where_none y t w'
+  refused_alike x y w w' e = ap (λ (r : Result ⊤ Refusal). where_none r t w) e.first ∙ sym (ap (λ (r : Result ⊤ Refusal). where_none r t w') e.second)
 
-  pub no_values : start_entered s n context ts bs t ≡ start_entered s n context' ts' bs' t
-  unfolding start_entered start_loaded
-  no_values = by_end (loaded_from s).end
-    where
-      by_end : (e : Step) → start_after e (items_of s) n context ts bs t ≡ start_after e (items_of s) n context' ts' bs' t
-      by_end (step.At e) =
-          ap (λ (x : Entering). pick (sound_of t) x (staying (entered.Refused Refusal.not_sound) t))
-          (refused_alike _ _ _ _ (numbers-same t.memory.registers (items_of s).functions))
-      by_end (step.Stop q p) = refl
+  start_alike : (r : Result Loaded Stop) (i : Items) → start_after r i n context ts bs t ≡ start_after r i n context' ts' bs' t
+  unfolding start_loaded
+  start_alike (Ok l) i =
+      ap (λ (x : Entering). pick (sound_of t) x (staying (Err (entry.Refused Refusal.not_sound)) t))
+      (refused_alike _ _ _ _ (checks_same t.memory.registers i.bytes i.functions))
+  start_alike (Err e) i = refl
+
+pub no_values : (s : List ℕ) (n : ℕ) (context context' : Found) (ts bs ts' bs' : List ℕ) (t : State) → length ts ≡ length ts' → are_values context ts bs ≡ false
+    → are_values context' ts' bs' ≡ false → start_entered s n context ts bs t ≡ start_entered s n context' ts' bs' t
+unfolding start_entered
+no_values s n context context' ts bs ts' bs' t l h k = start_alike n context context' ts bs ts' bs' t l h k (loaded_from s) (items_of s)
 
 -- the Chars that stand for them
 

@@ -31,14 +31,14 @@ use Rattle.promise.specs.Calls.{Call, call, Heard, Good, Asks, allocating, writi
 use Rattle.promise.specs.Promised.{RepliesAreAnswers, StatesFollow, Begun, begun, FreshFollows, CodeRepliesAreTold}
 use Rattle.promise.proofs.Refused.{images_refused}
 use Rattle.promise.proofs.Lent.{bad-given}
-use Rattle.promise.proofs.Answers.{entries-answer}
+use Rattle.promise.proofs.Answers.{entries_answer}
 use Rattle.image.specs.Limits.{AreBytes}
 
 pub replies_are_answers : RepliesAreAnswers
 unfolding heard_by answers with_refusals
 replies_are_answers cs as' Tells.no_more t g = refl
 replies_are_answers cs as' (asked {c} {a} {cs = rest} {as' = more} q w) t g =
-    let first = entries-answer c a q t g in
+    let first = entries_answer c a q t g in
     ap₂ (λ (r : Reply) (l : List Reply). r ∷ l) (ap (λ (x : Turn Memory). x.reply) first.same)
     (replies_are_answers rest more w (call c t).left first.good ∙ ap (λ (x : Turn Memory). with_refusals w (answers more x.machine)) first.same)
 replies_are_answers cs as' (passed {c} {n} {cs = rest} q w) t g =
@@ -50,7 +50,7 @@ pub states_follow : StatesFollow
 unfolding left_by onwards
 states_follow cs as' Tells.no_more t g = record { same = refl; good = g }
 states_follow cs as' (asked {c} {a} {cs = rest} {as' = more} q w) t g =
-    let first = entries-answer c a q t g in
+    let first = entries_answer c a q t g in
     let on = states_follow rest more w (call c t).left first.good in
     record { same = on.same ∙ ap (λ (x : Turn Memory). onwards more x.machine) first.same; good = on.good }
 states_follow cs as' (passed {c} {n} {cs = rest} q w) t g =

@@ -8,6 +8,7 @@ use mathlib.Core.List.{List, [], ◌∷◌, ◌++◌}
 use lib.ListN.{length, get_or}
 use lib.Dec.{T, ltb, leb-suc-suc}
 use mir.Facts.{yes_and}
+use Rattle.value.specs.declared.refusal.Refusal.{Refusal}
 use Rattle.value.specs.Value.{Value, value, Kind, char, tag, same}
 use Rattle.value.specs.Tags.{kind_at, holds, held}
 use Rattle.value.proofs.Tags.{tag_of_kind}
@@ -88,7 +89,7 @@ all_made (t ∷ ts) (b ∷ bs) h =
 
 pub data Told (c : Call) : Type 0 where
   asks : (a : Ask) → Asks c a → Told c
-  refuses : (n : ℕ) → Refuses c n → Told c
+  refuses : (n : Refusal) → Refuses c n → Told c
 
 module _ (s : List ℕ) (f : ℕ) (context : Found) (ts bs : List ℕ) (b : AreBytes s) (P : Program) (e : ℕ) (h : loaded s ≡ took P e) where
   started : Told (call_start s f context ts bs)

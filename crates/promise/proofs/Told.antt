@@ -4,8 +4,10 @@ use native.Mathlib.Omega.{arith}
 use mathlib.Core.Path.{◌≡◌, refl, sym, ap, ◌∙◌, subst}
 use mathlib.Core.List.{List, [], ◌∷◌, ◌++◌}
 use lib.ListN.{length}
+use Rattle.std.proofs.lemmas.Bool.{false≢true}
+use Rattle.value.specs.declared.refusal.Refusal.{Refusal}
 use Rattle.value.specs.Answer.{Answer, ok, refused, ◌>>=◌}
-use Rattle.value.specs.Refusal.{frame_gone}
+use Rattle.value.specs.Refusal.{frame_gone, number_of}
 use Rattle.value.specs.Value.{IrType, kind_of, size}
 use Rattle.value.proofs.Truth.{is_true}
 use Rattle.image.specs.Program.{Program, Instruction}
@@ -24,7 +26,7 @@ use Rattle.agree.specs.Seen.{seen, room}
 use Rattle.agree.proofs.Entries as Entries
 use Rattle.promise.specs.Calls.{Call, call_read, call_write, call_step, call_list, call, shown, Good, Asks, reading, writing, stepping, listing, Tells, asked, passed, left_by}
 use Rattle.promise.specs.Promised.{After, Image, read_of, CodeGrantsExactlyWhenRight, CodeReadsLastStored, CodeReadsConstants, CodeRefusesWithItsNumber, CodeGoneExactlyWhenEnded, CodeWritesStayApart, CodeListsAsTold, step_of, CodeStepsGrantExactlyWhenRight, CodeStepsReadLastStored, CodeCopiesRefused, CodeCopiesLastStored, CodeGoesOn, CodeCallsBegin, CodeStartsMakeSlots, CodeReturnsEnd, CodeWritesStore, CodeInitializesMake, CodeRefusesEverAfter}
-use Rattle.promise.proofs.Answers.{entries-answer}
+use Rattle.promise.proofs.Answers.{entries_answer}
 use Rattle.promise.proofs.Sequence.{fresh_follows, tells-accepted}
 
 module _ (as' : List Ask) (t : State) (after : After as' t) where
@@ -32,7 +34,7 @@ module _ (as' : List Ask) (t : State) (after : After as' t) where
   reply-same : (c : Call) (a : Ask) → Asks c a → (call c t).reply ≡ (enter a (state_after as')).reply
   reply-same c a q =
       let f = fresh_follows as' t after in
-      ap (λ (x : Turn Memory). x.reply) (entries-answer c a q t f.1).same ∙ ap (λ s. (enter a s).reply) f.0
+      ap (λ (x : Turn Memory). x.reply) (entries_answer c a q t f.1).same ∙ ap (λ s. (enter a s).reply) f.0
 
   read_same : (s : List ℕ) (P : Program) → Image s P → (p : ℕ) (buffer : List ℕ) → read_of t s p buffer ≡ reply as' P p (length buffer)
   read_same s P i p buffer = reply-same (call_read s p buffer) (to_read P p (length buffer)) (reading i.bytes i.taken)
@@ -69,7 +71,7 @@ write_done_lem S p bs e = go (write_bytes S.memory p bs) refl e
     go : (x : Answer Memory) → write_bytes S.memory p bs ≡ x → (changes S done (x >>= λ m. ok (with_memory believed S m))).reply ≡ done
         → (m : Memory) × (write_bytes S.memory p bs ≡ ok m) × ((changes S done (x >>= λ m. ok (with_memory believed S m))).machine.memory ≡ m)
     go (ok m) h e = (m, h, refl)
-    go (refused k) h e = absurd (let z : ◌≡◌ {A = ℕ} 0 1 = cc in omega arith)
+    go (refused k) h e = absurd (false≢true cc)
 
 -- a read's reply is by the bytes that the memory reads
 read_by : (S S' : Machine Memory) (P : Program) (q n : ℕ) → read_bytes P.constants S.memory q n ≡ read_bytes P.constants S'.memory q n
@@ -83,7 +85,7 @@ read_by S S' P q n e = ap (λ (x : Answer (List ℕ)). (shows S x).reply) e ∙ 
 
 -- on a good state 10 is not given
 ask-same : (c : Call) (a : Ask) → Asks c a → (u : State) → Good u → shown (call c u) ≡ ask believed a (seen u)
-ask-same c a x u g = (entries-answer c a x u g).same ∙ Entries.asked u g.sound g.bytes a
+ask-same c a x u g = (entries_answer c a x u g).same ∙ Entries.asked u g.sound g.bytes a
 
 pub code_writes_stay_apart : CodeWritesStayApart
 code_writes_stay_apart as' t after p q f j o f' j' o' bs b e at_p at-q apart s P i buffer =
@@ -98,7 +100,7 @@ code_writes_stay_apart as' t after p q f j o f' j' o' bs b e at_p at-q apart s P
     ap (λ (z : Memory). read_bytes constants z q n) (ap (λ (x : Turn Memory). x.machine.memory) w ∙ is) ∙ stays ∙ ap (λ (z : Machine Memory). read_bytes constants z.memory q n) (sym same) in
     let reads_as : (u : State) → Good u → read_of u s q buffer ≡ (ask believed (to_read P q n) (seen u)).reply =
     λ u g. ap (λ (x : Turn Memory). x.reply) (ask-same (call_read s q buffer) (to_read P q n) (reading i.bytes i.taken) u g) in
-    reads_as left (entries-answer (call_write p bs) (to_write p bs) (writing b) t good).good ∙ read_by (seen left) (seen t) P q n reads ∙ sym (reads_as t good)
+    reads_as left (entries_answer (call_write p bs) (to_write p bs) (writing b) t good).good ∙ read_by (seen left) (seen t) P q n reads ∙ sym (reads_as t good)
 
 pub code_lists_as_told : CodeListsAsTold
 code_lists_as_told as' t after l f a o fits =
@@ -110,7 +112,7 @@ module _ (as' : List Ask) (t : State) (after : After as' t) (s : List ℕ) (P : 
   step_same : shown (step_of t s) ≡ stepped as' P
   step_same =
       let f = fresh_follows as' t after in
-      (entries-answer (call_step s) (to_step P) (stepping i.bytes i.taken) t f.1).same ∙ ap (enter (to_step P)) f.0
+      (entries_answer (call_step s) (to_step P) (stepping i.bytes i.taken) t f.1).same ∙ ap (enter (to_step P)) f.0
 
   step-reply : (step_of t s).reply ≡ (stepped as' P).reply
   step-reply = ap (λ (x : Turn Memory). x.reply) step_same
@@ -190,7 +192,7 @@ code_initializes_make as' t after s P i to n bs at d =
     (x.0, ap (λ (z : Turn Memory). z.machine.vars to) (step_same as' t after s P i) ∙ x.1)
 
 -- a write that the memory refuses is refused by the entry
-write-refused : (as' : List Ask) → Accepted as' → (p k : ℕ) (bs : List ℕ) → write_bytes (state_after as').memory p bs ≡ refused k → (enter (to_write p bs) (state_after as')).reply ≡ refusal k
+write-refused : (as' : List Ask) → Accepted as' → (p : ℕ) (k : Refusal) (bs : List ℕ) → write_bytes (state_after as').memory p bs ≡ refused k → (enter (to_write p bs) (state_after as')).reply ≡ refusal k
 unfolding enter ask host_write changes ◌>>=◌
 write-refused as' h p k bs e = rw (is_true (sound (state_after as')) (always_sound as' h), e) refl
 
@@ -202,6 +204,6 @@ code_refuses_ever_after as' bs' cs' t after p f j o at end =
     let why : (P : Program) (n : ℕ) → Why (tells asks) P p n frame_gone = λ P n. (refused_with_its_number asks fine P p n frame_gone).0 (gone.0 P n) in (
       (λ s P i buffer. read_same asks t after s P i p buffer ∙ gone.0 P (length buffer)),
       (λ bs b. reply-same asks t after (call_write p bs) (to_write p bs) (writing b) ∙ write-refused asks fine p frame_gone bs (gone.2 bs)),
-      (λ s P i to type r. ((code_steps_grant_exactly_when_right asks t after s P i to type p r).1 frame_gone (λ e. absurd (omega arith))).1 (why P (size (kind_of type)))),
+      (λ s P i to type r. ((code_steps_grant_exactly_when_right asks t after s P i to type p r).1 frame_gone (λ e. absurd (omega (arith, ap number_of e)))).1 (why P (size (kind_of type)))),
       (λ s P i q n c. code_copies_refused asks t after s P i q p n frame_gone c (why P n)),
     )

@@ -1,5 +1,6 @@
 -- What a host may call, in any order, on one set of tables: what it is answered in the machine's words, and the state that it then holds.
 use Rattle.std.specs.Prelude.{ℕ, Bool, true, false, ◌&&◌, ◌≡◌, List, [], ◌∷◌, ◌++◌, length, replicate, T}
+use Rattle.value.specs.declared.refusal.Refusal.{Refusal}
 use Rattle.value.specs.Value.{Value, tag}
 use Rattle.image.specs.Parse.{took}
 use Rattle.image.specs.Parse as Parse
@@ -81,11 +82,11 @@ pub data Asks : Call → Ask → Type 0 where
   listing : {l f a o : List ℕ} → Asks (call_list l f a o) (to_list (room l f a o))
 
 -- a call whose image is refused asks nothing
-pub data Refuses : Call → (number : ℕ) → Type 0 where
-  refuses-read : {s : List ℕ} {n q p : ℕ} {buffer : List ℕ} → loaded s ≡ Parse.refused n q → Refuses (call_read s p buffer) n
-  refuses-start : {s : List ℕ} {n q f : ℕ} {context : Found} {ts bs : List ℕ} → loaded s ≡ Parse.refused n q → Refuses (call_start s f context ts bs) n
-  refuses-step : {s : List ℕ} {n q : ℕ} → loaded s ≡ Parse.refused n q → Refuses (call_step s) n
-  refuses-run : {s : List ℕ} {n q budget : ℕ} → loaded s ≡ Parse.refused n q → Refuses (call_run s budget) n
+pub data Refuses : Call → Refusal → Type 0 where
+  refuses-read : {s : List ℕ} {n : Refusal} {q p : ℕ} {buffer : List ℕ} → loaded s ≡ Parse.refused n q → Refuses (call_read s p buffer) n
+  refuses-start : {s : List ℕ} {n : Refusal} {q f : ℕ} {context : Found} {ts bs : List ℕ} → loaded s ≡ Parse.refused n q → Refuses (call_start s f context ts bs) n
+  refuses-step : {s : List ℕ} {n : Refusal} {q : ℕ} → loaded s ≡ Parse.refused n q → Refuses (call_step s) n
+  refuses-run : {s : List ℕ} {n : Refusal} {q budget : ℕ} → loaded s ≡ Parse.refused n q → Refuses (call_run s budget) n
 
 -- what is lent as bytes is bytes, as the code's types say
 abbrev pub Lent : Call → Type 0
@@ -115,7 +116,7 @@ left_by (c ∷ cs) t = left_by cs (call c t).left
 pub data Tells : List Call → List Ask → Type 0 where
   no_more : Tells [] []
   asked : {c : Call} {a : Ask} {cs : List Call} {as' : List Ask} → Asks c a → Tells cs as' → Tells (c ∷ cs) (a ∷ as')
-  passed : {c : Call} {n : ℕ} {cs : List Call} {as' : List Ask} → Refuses c n → Tells cs as' → Tells (c ∷ cs) as'
+  passed : {c : Call} {n : Refusal} {cs : List Call} {as' : List Ask} → Refuses c n → Tells cs as' → Tells (c ∷ cs) as'
 
 -- the replies to what they ask, and where an image was refused, that refusal
 unfoldable pub with_refusals : {cs : List Call} {as' : List Ask} → Tells cs as' → List Reply → List Reply

@@ -1,6 +1,7 @@
 -- What is promised of the compiled entries: seen through their tables they are the believed machine's, whoever calls them and in whatever order.
-use Rattle.std.specs.Prelude.{ℕ, ◌+◌, ◌≤◌, ◌<◌, true, false, ◌≢◌, ◌⊎◌, ◌↔◌, ◌≡◌, List, [], ◌∷◌, ◌++◌, length, get_or, take}
+use Rattle.std.specs.Prelude.{ℕ, ◌+◌, ◌≤◌, ◌<◌, true, false, ◌≢◌, ◌⊎◌, ◌↔◌, ◌≡◌, List, [], ◌∷◌, ◌++◌, length, get_or, take, Ok}
 use Rattle.std.proofs.Math.Option.{Option, some}
+use Rattle.value.specs.declared.refusal.Refusal.{Refusal}
 use Rattle.value.specs.Refusal.{not_sound, frame_gone, not_bool}
 use Rattle.value.specs.Answer.{ok}
 use Rattle.value.specs.Value.{Value, value, pointer, IrType, kind_of, size, bytes_of, from_bytes}
@@ -37,7 +38,7 @@ EntriesAnswer = (c : Call) (a : Ask) → Asks c a → (t : State) → Good t →
 
 -- "Order: image, 10, ..": an image that is refused is answered by its number, before all else, and nothing changes
 abbrev pub ImagesRefused : Type 0
-ImagesRefused = (c : Call) (n : ℕ) → Refuses c n → (t : State) → call c t ≡ heard (refusal n) t
+ImagesRefused = (c : Call) (n : Refusal) → Refuses c n → (t : State) → call c t ≡ heard (refusal n) t
 
 -- "10 state not sound", and nothing changes
 abbrev pub UnsoundRefused : Type 0
@@ -49,14 +50,14 @@ EncodedAnswer = (c : Call) (a : Ask) → Asks c a → (t : State) → well_encod
 
 -- "A refusal leaves state and lent buffers untouched": each element of each table, stale ones too
 abbrev pub RefusalsChangeNothing : Type 0
-RefusalsChangeNothing = (c : Call) (a : Ask) → Asks c a → (t : State) → Good t → (n : ℕ) → (call c t).reply ≡ refusal n → (call c t).left ≡ t
+RefusalsChangeNothing = (c : Call) (a : Ask) → Asks c a → (t : State) → Good t → (n : Refusal) → (call c t).reply ≡ refusal n → (call c t).left ≡ t
 
 -- the buffer of a read, and the slices of the list, on any state
 abbrev pub BuffersStay : Type 0
-BuffersStay = (s : List ℕ) (p : ℕ) (buffer : List ℕ) (t : State) (n : ℕ) → (call (call_read s p buffer) t).reply ≡ refusal n → (read_entered s p buffer t).bytes ≡ buffer
+BuffersStay = (s : List ℕ) (p : ℕ) (buffer : List ℕ) (t : State) (n : Refusal) → (call (call_read s p buffer) t).reply ≡ refusal n → (read_entered s p buffer t).bytes ≡ buffer
 
 abbrev pub SlicesStay : Type 0
-SlicesStay = (l f a o : List ℕ) (t : State) (n : ℕ) → (call (call_list l f a o) t).reply ≡ refusal n → (host_listed t l f a o).slices ≡ columns l f a o
+SlicesStay = (l f a o : List ℕ) (t : State) (n : Refusal) → (call (call_list l f a o) t).reply ≡ refusal n → (host_listed t l f a o).slices ≡ columns l f a o
 
 -- ---- any calls, in any order
 
@@ -132,7 +133,7 @@ CodeReadsConstants = (as' : List Ask) (t : State) → After as' t → (s : List 
 
 -- 3. and the others are refused with their number
 abbrev pub CodeRefusesWithItsNumber : Type 0
-CodeRefusesWithItsNumber = (as' : List Ask) (t : State) → After as' t → (s : List ℕ) (P : Program) → Image s P → (p : ℕ) (buffer : List ℕ) (k : ℕ)
+CodeRefusesWithItsNumber = (as' : List Ask) (t : State) → After as' t → (s : List ℕ) (P : Program) → Image s P → (p : ℕ) (buffer : List ℕ) (k : Refusal)
     → (read_of t s p buffer ≡ refusal k) ↔ Why (tells as') P p (length buffer) k
 
 -- 27 is given exactly where the frame has returned
@@ -154,7 +155,7 @@ ends h t f j = bound t.memory (rank_of h t f j + 1)
 
 -- an access through p that is granted has its n bytes there, `at` being the first; a write's place is a read's (`write_access_of`)
 abbrev pub CodeAccessesItsOwn : Type 0
-CodeAccessesItsOwn = (as' : List Ask) (t : State) → After as' t → (p n at f j o : ℕ) → StandsFor (tells as') p (of_place f j o) → read_access_of t.memory p n ≡ Local at
+CodeAccessesItsOwn = (as' : List Ask) (t : State) → After as' t → (p n at f j o : ℕ) → StandsFor (tells as') p (of_place f j o) → read_access_of t.memory p n ≡ Ok (Local at)
     → (at ≡ begins (tells as') t f j + o) × (at + n ≤ ends (tells as') t f j)
 
 -- of two that live and are not the same, one ends before the other begins
@@ -190,8 +191,8 @@ step_of t s = call (call_step s) t
 -- a Read is refused with no number, or with 31 alone, exactly when the host's read would be granted; every other number is the host's
 abbrev pub CodeStepsGrantExactlyWhenRight : Type 0
 CodeStepsGrantExactlyWhenRight = (as' : List Ask) (t : State) → After as' t → (s : List ℕ) (P : Program) → Image s P → (to : ℕ) (type : IrType) (p : ℕ) → AtRead (seen t) P to type p
-    → (((k : ℕ) → (step_of t s).reply ≡ refusal k → k ≡ not_bool) ↔ Right (tells as') P p (size (kind_of type)))
-    × ((k : ℕ) → k ≢ not_bool → ((step_of t s).reply ≡ refusal k) ↔ Why (tells as') P p (size (kind_of type)) k)
+    → (((k : Refusal) → (step_of t s).reply ≡ refusal k → k ≡ not_bool) ↔ Right (tells as') P p (size (kind_of type)))
+    × ((k : Refusal) → k ≢ not_bool → ((step_of t s).reply ≡ refusal k) ↔ Why (tells as') P p (size (kind_of type)) k)
 
 -- and its value is made of the bytes last stored
 abbrev pub CodeStepsReadLastStored : Type 0
@@ -201,7 +202,7 @@ CodeStepsReadLastStored = (as' : List Ask) (t : State) → After as' t → (s : 
 
 -- a Copy is refused as the host's read would be, else it writes the bytes last stored
 abbrev pub CodeCopiesRefused : Type 0
-CodeCopiesRefused = (as' : List Ask) (t : State) → After as' t → (s : List ℕ) (P : Program) → Image s P → (q p n k : ℕ) → AtCopy (seen t) P q p n → Why (tells as') P p n k
+CodeCopiesRefused = (as' : List Ask) (t : State) → After as' t → (s : List ℕ) (P : Program) → Image s P → (q p n : ℕ) (k : Refusal) → AtCopy (seen t) P q p n → Why (tells as') P p n k
     → (step_of t s).reply ≡ refusal k
 
 abbrev pub CodeCopiesLastStored : Type 0

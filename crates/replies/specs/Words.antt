@@ -1,22 +1,20 @@
 -- Registers and answers as the words that a host in C or Rust lends.
-use Rattle.std.specs.Prelude.{ℕ, Bool, ◌&&◌, List, [], ◌∷◌, get_or, length, eqb}
+use Rattle.std.specs.Prelude.{ℕ, Bool, ◌&&◌, List, [], ◌∷◌, get_or, length, eqb, Result, Ok, Err, Option, Some, None, ⊤}
+use Rattle.value.specs.declared.refusal.Refusal.{Refusal}
+use Rattle.value.specs.Refusal as refusal
 use Rattle.value.specs.Answer.{pick}
+use Rattle.image.specs.declared.number.Stop.{Stop}
 use Rattle.memory.specs.Tables.{registers}
 use Rattle.memory.specs.declared.Registers.{Registers}
-use Rattle.memory.specs.declared.Moved.{Moved}
-use Rattle.memory.specs.declared.Moved.TheVariants as moved
-use Rattle.memory.specs.declared.Given.{Given}
-use Rattle.memory.specs.declared.Given.TheVariants as given
-use Rattle.memory.specs.declared.Outcome.{Outcome}
-use Rattle.memory.specs.declared.Outcome.TheVariants as outcome
 use Rattle.run.specs.declared.Ran.{Ran}
 use Rattle.run.specs.declared.Ran.TheVariants as ran
-use Rattle.eval.specs.declared.entry.Entered.{Entered}
-use Rattle.eval.specs.declared.entry.Entered.TheVariants as entered
-use Rattle.eval.specs.declared.entry.Readout.{Readout}
-use Rattle.eval.specs.declared.entry.Readout.TheVariants as readout
-use Rattle.image_writer.specs.declared.writer.Outcome.{Outcome as Written}
-use Rattle.image_writer.specs.declared.writer.Outcome.TheVariants as written
+use Rattle.instruction.specs.declared.step.Progress.{Progress}
+use Rattle.instruction.specs.declared.step.Progress.TheVariants as progress
+use Rattle.instruction.specs.declared.variables.Found.{Found}
+use Rattle.eval.specs.declared.entry.EntryError.{EntryError}
+use Rattle.eval.specs.declared.entry.EntryError.TheVariants as entry
+use Rattle.image_writer.specs.declared.writer.WriteError.{WriteError}
+use Rattle.image_writer.specs.declared.writer.WriteError.TheVariants as write
 use Rattle.replies.specs.declared.words.Reply.{Reply}
 
 -- ---- words
@@ -51,41 +49,54 @@ reply n e t b c = record { number = n; ended = e; tag = t; bits = b; count = c }
 abbrev pub counted_of : (number count : ℕ) → Reply
 counted_of n c = reply n 0 0 0 c
 
-abbrev pub reply_moved : Moved → Reply
-reply_moved (moved.Done n) = counted_of 0 0
-reply_moved (moved.Refused number) = counted_of number 0
+-- a refusal's number, and no count
+abbrev pub refused_of : Refusal → Reply
+refused_of n = counted_of (refusal.number_of n) 0
 
--- "returned (a value or none)"; an image is refused at a place
-abbrev pub reply_entered : Entered → Reply
-reply_entered (entered.Went n) = counted_of 0 0
-reply_entered (entered.Returned n v) = reply 0 1 v.tag v.bits 0
-reply_entered (entered.Refused number) = counted_of number 0
-reply_entered (entered.NotLoaded number place) = counted_of number place
+-- "an image is refused at a place"
+abbrev pub stopped_of : Stop → Reply
+stopped_of e = counted_of (refusal.number_of e.why) e.place
+
+abbrev pub reply_error : EntryError → Reply
+reply_error (entry.Refused n) = refused_of n
+reply_error (entry.NotLoaded e) = stopped_of e
+
+-- "returned (a value or none)": none has tag 0 and bits 0
+abbrev pub ended_of : Option Found → (count : ℕ) → Reply
+ended_of (Some v) c = reply 0 1 v.tag v.bits c
+ended_of None c = reply 0 1 0 0 c
+
+abbrev pub reply_moved : Result Registers Refusal → Reply
+reply_moved (Ok n) = counted_of 0 0
+reply_moved (Err n) = refused_of n
+
+abbrev pub reply_entered : Result Progress EntryError → Reply
+reply_entered (Ok (progress.Next m)) = counted_of 0 0
+reply_entered (Ok (progress.Ended m v)) = ended_of v 0
+reply_entered (Err e) = reply_error e
 
 -- the steps done are told with each
-abbrev pub reply_run : Ran → Reply
-reply_run (ran.Returned n v count) = reply 0 1 v.tag v.bits count
-reply_run (ran.Paused n count) = counted_of 0 count
-reply_run (ran.Stopped n number count) = counted_of number count
-reply_run (ran.Refused number) = counted_of number 0
-reply_run (ran.NotLoaded number place) = counted_of number place
+abbrev pub reply_run : Result Ran EntryError → Reply
+reply_run (Ok (ran.Returned m v count)) = ended_of v count
+reply_run (Ok (ran.Paused m count)) = counted_of 0 count
+reply_run (Ok (ran.Stopped m n count)) = counted_of (refusal.number_of n) count
+reply_run (Err e) = reply_error e
 
 -- the new pointer's number
-abbrev pub reply_given : Given → Reply
-reply_given (given.Made pointer n) = counted_of 0 pointer
-reply_given (given.Refused number) = counted_of number 0
+abbrev pub reply_given : Result (ℕ × Registers) Refusal → Reply
+reply_given (Ok (pointer, m)) = counted_of 0 pointer
+reply_given (Err n) = refused_of n
 
-abbrev pub reply_read : Readout → Reply
-reply_read readout.Done = counted_of 0 0
-reply_read (readout.Refused number) = counted_of number 0
-reply_read (readout.NotLoaded number place) = counted_of number place
+abbrev pub reply_read : Result ⊤ EntryError → Reply
+reply_read (Ok u) = counted_of 0 0
+reply_read (Err e) = reply_error e
 
 -- how many bytes were written
-abbrev pub reply_written : Written → Reply
-reply_written (written.Done count) = counted_of 0 count
-reply_written (written.Refused number place) = counted_of number place
-reply_written (written.Short number) = counted_of number 0
+abbrev pub reply_written : Result ℕ WriteError → Reply
+reply_written (Ok count) = counted_of 0 count
+reply_written (Err (write.NotLoaded e)) = stopped_of e
+reply_written (Err write.Short) = refused_of refusal.short_buffer
 
-abbrev pub number_of : Outcome → ℕ
-number_of outcome.Done = 0
-number_of (outcome.Refused number) = number
+abbrev pub number_of : Result ⊤ Refusal → ℕ
+number_of (Ok u) = 0
+number_of (Err n) = refusal.number_of n

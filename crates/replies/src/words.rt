@@ -1,11 +1,15 @@
 // Registers and answers as words.
 ghost use Rattle.std.specs.Prelude.{◌≡◌, get_or};
-ghost use Rattle.replies.specs.Words.{shaped_of, registers_in, registers_put, reply_put, counted_of, reply_moved, reply_entered, reply_run, reply_given, reply_read, reply_written, number_of};
+ghost use Rattle.replies.specs.Words.{shaped_of, refused_of, stopped_of, reply_error, ended_of, registers_in, registers_put, reply_put, counted_of, reply_moved, reply_entered, reply_run, reply_given, reply_read, reply_written, number_of};
 
-use eval::entry::{Entered, Readout};
-use image_writer::writer::Outcome as Written;
-use memory::{Given, Moved, Outcome, Registers};
+use eval::entry::EntryError;
+use image::number::Stop;
+use image_writer::writer::WriteError;
+use instruction::step::Progress;
+use instruction::variables::Found;
+use memory::Registers;
 use run::Ran;
+use value::refusal::Refusal;
 
 // How many words the registers and an answer are.
 pub const REGISTERS: usize = 5;
@@ -13,7 +17,7 @@ pub const REGISTERS: usize = 5;
 pub const ANSWER: usize = 4;
 
 // A refusal's number or 0, and the words of an answer.
-#[derive(Clone, Copy)]
+#[derive(Clone, Copy, Debug, PartialEq, Eq)]
 pub struct Reply {
     pub number: u64,
     pub ended: u64,
@@ -23,23 +27,18 @@ pub struct Reply {
 }
 
 // Whether registers and answer have their lengths.
+#[tactic(auto, unfolding(crate::specs::Words::shaped_of))]
 pub fn shaped(registers: usize, answer: usize) -> bool
     ensures { result ≡ shaped_of registers answer }
 {
-    if registers != REGISTERS {
-        return false;
-    }
-    answer == ANSWER
+    registers == REGISTERS && answer == ANSWER
 }
 
 // The k-th word, 0 beyond the last.
 fn word(words: &[u64], k: usize) -> u64
     ensures { result ≡ get_or words.now k 0 }
 {
-    if words.len() <= k {
-        return 0;
-    }
-    words[k]
+    words.get(k).copied().unwrap_or(0)
 }
 
 // The registers that five words say.
@@ -56,27 +55,28 @@ pub fn registers_in(words: &[u64]) -> Registers
 }
 
 // The registers into five words.
+#[tactic(auto, unfolding(crate::specs::Words::registers_put))]
 pub fn put_registers(m: Registers, words: &mut [u64])
     ensures { words.new ≡ registers_put m words.old }
 {
     if words.len() == REGISTERS {
-        words[0] = m.running;
-        words[1] = m.next as u64;
-        words[2] = m.counter;
-        words[3] = m.depth as u64;
-        words[4] = m.pointers as u64;
+        words.copy_from_slice(&[
+            m.running,
+            m.next as u64,
+            m.counter,
+            m.depth as u64,
+            m.pointers as u64,
+        ]);
     }
 }
 
 // An answer into four words.
+#[tactic(auto, unfolding(crate::specs::Words::reply_put))]
 pub fn put_reply(r: Reply, words: &mut [u64])
     ensures { words.new ≡ reply_put r words.old }
 {
     if words.len() == ANSWER {
-        words[0] = r.ended;
-        words[1] = r.tag;
-        words[2] = r.bits;
-        words[3] = r.count;
+        words.copy_from_slice(&[r.ended, r.tag, r.bits, r.count]);
     }
 }
 
@@ -93,85 +93,107 @@ fn counted(number: u64, count: u64) -> Reply
     }
 }
 
-pub fn reply_moved(r: Moved) -> Reply
+// A refusal's number, and no count.
+fn refused(why: Refusal) -> Reply
+    ensures { result ≡ refused_of why }
+{
+    counted(why.number(), 0)
+}
+
+// An image that was refused: the number, and the place as the count.
+fn stopped(stop: Stop) -> Reply
+    ensures { result ≡ stopped_of stop }
+{
+    counted(stop.why.number(), stop.place as u64)
+}
+
+fn reply_error(e: EntryError) -> Reply
+    ensures { result ≡ reply_error e }
+{
+    match e {
+        EntryError::Refused(why) => refused(why),
+        EntryError::NotLoaded(stop) => stopped(stop),
+    }
+}
+
+// The last Return's value, or none: tag 0 and bits 0.
+fn ended(v: Option<Found>, count: u64) -> Reply
+    ensures { result ≡ ended_of v count }
+{
+    let v = v.unwrap_or(Found { tag: 0, bits: 0 });
+    Reply {
+        number: 0,
+        ended: 1,
+        tag: v.tag,
+        bits: v.bits,
+        count,
+    }
+}
+
+pub fn reply_moved(r: Result<Registers, Refusal>) -> Reply
     ensures { result ≡ reply_moved r }
 {
     match r {
-        Moved::Done(_) => counted(0, 0),
-        Moved::Refused(number) => counted(number, 0),
+        Ok(_) => counted(0, 0),
+        Err(why) => refused(why),
     }
 }
 
-pub fn reply_entered(r: Entered) -> Reply
+pub fn reply_entered(r: Result<Progress, EntryError>) -> Reply
     ensures { result ≡ reply_entered r }
 {
     match r {
-        Entered::Went(_) => counted(0, 0),
-        Entered::Returned(_, v) => Reply {
-            number: 0,
-            ended: 1,
-            tag: v.tag,
-            bits: v.bits,
-            count: 0,
-        },
-        Entered::Refused(number) => counted(number, 0),
-        Entered::NotLoaded(number, place) => counted(number, place as u64),
+        Ok(Progress::Next(_)) => counted(0, 0),
+        Ok(Progress::Ended(_, v)) => ended(v, 0),
+        Err(e) => reply_error(e),
     }
 }
 
-pub fn reply_run(r: Ran) -> Reply
+pub fn reply_run(r: Result<Ran, EntryError>) -> Reply
     ensures { result ≡ reply_run r }
 {
     match r {
-        Ran::Returned(_, v, count) => Reply {
-            number: 0,
-            ended: 1,
-            tag: v.tag,
-            bits: v.bits,
-            count,
-        },
-        Ran::Paused(_, count) => counted(0, count),
-        Ran::Stopped(_, number, count) => counted(number, count),
-        Ran::Refused(number) => counted(number, 0),
-        Ran::NotLoaded(number, place) => counted(number, place as u64),
+        Ok(Ran::Returned(_, v, count)) => ended(v, count),
+        Ok(Ran::Paused(_, count)) => counted(0, count),
+        Ok(Ran::Stopped(_, why, count)) => counted(why.number(), count),
+        Err(e) => reply_error(e),
     }
 }
 
-pub fn reply_given(r: Given) -> Reply
+pub fn reply_given(r: Result<(usize, Registers), Refusal>) -> Reply
     ensures { result ≡ reply_given r }
 {
     match r {
-        Given::Made(pointer, _) => counted(0, pointer as u64),
-        Given::Refused(number) => counted(number, 0),
+        Ok((pointer, _)) => counted(0, pointer as u64),
+        Err(why) => refused(why),
     }
 }
 
-pub fn reply_read(r: Readout) -> Reply
+pub fn reply_read(r: Result<(), EntryError>) -> Reply
     ensures { result ≡ reply_read r }
 {
     match r {
-        Readout::Done => counted(0, 0),
-        Readout::Refused(number) => counted(number, 0),
-        Readout::NotLoaded(number, place) => counted(number, place as u64),
+        Ok(()) => counted(0, 0),
+        Err(e) => reply_error(e),
     }
 }
 
-pub fn reply_written(r: Written) -> Reply
+pub fn reply_written(r: Result<usize, WriteError>) -> Reply
     ensures { result ≡ reply_written r }
 {
     match r {
-        Written::Done(count) => counted(0, count as u64),
-        Written::Refused(number, place) => counted(number, place as u64),
-        Written::Short(number) => counted(number, 0),
+        Ok(count) => counted(0, count as u64),
+        Err(WriteError::NotLoaded(stop)) => stopped(stop),
+        Err(WriteError::Short) => refused(Refusal::ShortBuffer),
     }
 }
 
 // The number of a refusal, or 0.
-pub fn number_of(r: Outcome) -> u64
+pub fn number_of(r: Result<(), Refusal>) -> u64
     ensures { result ≡ number_of r }
 {
     match r {
-        Outcome::Done => 0,
-        Outcome::Refused(number) => number,
+        Ok(()) => 0,
+        Err(why) => why.number(),
     }
 }
