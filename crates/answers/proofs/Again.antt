@@ -9,6 +9,7 @@ use mathlib.Core.List.{List, [], ◌∷◌, ◌++◌, map, append_assoc}
 use lib.ListN.{length, get_or, get_or-eq_default}
 use lib.Dec.{ltb, eqb}
 use borrow.Author.Tests.{eq-eqb, ne_eqb, eqb-true}
+use Rattle.std.specs.Prelude.{Some, Ok}
 use Rattle.value.specs.Answer.{pick}
 use Rattle.words.specs.Ascii.{ascii}
 use Rattle.words.specs.Number.{all_digits, decimal, number}
@@ -16,8 +17,6 @@ use Rattle.words.specs.Hex.{is_hex, bytes_said, glyph, pairs_of, hex_of}
 use Rattle.words.specs.Words.{until, onto, parts, words, lines}
 use Rattle.words.specs.Kinds.{name, names, name_of, kind_read, fits}
 use Rattle.words.specs.Pairs.{pair_said}
-use Rattle.words.specs.declared.Read.TheVariants as read
-use Rattle.words.specs.declared.Pair.TheVariants.{Value}
 use Rattle.answers.specs.Lines as Lines
 use Rattle.words.proofs.Numbers as Numbers
 use Rattle.words.proofs.Numbers.{first, all-decimal}
@@ -149,8 +148,8 @@ Held (hex bs) = (k : ℕ) → get_or bs k 0 < 256
 -- the word's reader says what was written
 abbrev pub Says : Item → Type 0
 Says (fixed w) = w ≡ w
-Says (num n) = number (decimal n) ≡ read.Number n
-Says (kind t) = kind_read (name_of t) ≡ read.Number t
+Says (num n) = number (decimal n) ≡ Some n
+Says (kind t) = kind_read (name_of t) ≡ Some t
 Says (hex bs) = (is_hex (hex_of bs) ≡ true) × (bytes_said (hex_of bs) ≡ bs)
 
 says : (i : Item) → Held i → Says i
@@ -232,7 +231,7 @@ apart b m n i is l h = record {
 }
 
 -- a kind and its bits, read as a pair
-pub pair_again : (t b : ℕ) → 0 < t → t < 15 → b < 2 ^ 64 → fits t b ≡ true → pair_said (name_of t) (decimal b) ≡ Value t b
+pub pair_again : (t b : ℕ) → 0 < t → t < 15 → b < 2 ^ 64 → fits t b ≡ true → pair_said (name_of t) (decimal b) ≡ Ok (t, b)
 pair_again t b l u h f =
     sym (pair_value (name_of t) (decimal b) t b (Names.there t l u) (sym (in_kind_lem (decimal b) t b (Numbers.there b h) f)))
 

@@ -3,12 +3,11 @@ use Prim.Native.Nat.{ℕ, ◌+◌, ◌*◌, ◌<◌, ◌≤◌}
 use native.Mathlib.Omega.{arith}
 use mathlib.Core.List.{List, [], ◌∷◌}
 use lib.ListN.{length}
+use Rattle.std.specs.Prelude.{Option, Some, None}
 use Rattle.words.specs.Room.{size}
 use Rattle.words.proofs.Room.{decimal-size, decimal-below, name-size, hex-size}
 use Rattle.answers.specs.Lines as Lines
 use Rattle.answers.specs.Dump as Dump
-use Rattle.answers.specs.declared.Var.{Var}
-use Rattle.answers.specs.declared.Var.TheVariants.{None, At}
 
 -- ---- lines of a few words
 
@@ -71,8 +70,8 @@ live-size l f a o = omega (arith, decimal-size l, decimal-size f, decimal-size a
 pub state-size : (r n c : ℕ) → size (Dump.state_text r n c) ≤ 70
 state-size r n c = omega (arith, decimal-size r, decimal-size n, decimal-size c)
 
-var-size : (v : Var) → length (Dump.var_piece v) ≤ 20
-var-size (At n) = decimal-size n
+var-size : (v : Option ℕ) → length (Dump.var_piece v) ≤ 20
+var-size (Some n) = decimal-size n
 var-size None = omega arith
 
 more-size : (ls : List ℕ) → size (Dump.more_lengths ls) ≤ 21 * length ls
@@ -85,7 +84,7 @@ unfolding Dump.lengths_text
 lengths_size [] most h g = omega arith
 lengths_size (l ∷ ls) most h g = omega (arith, decimal-size l, more-size ls)
 
-pub frame-size : (i p : ℕ) (v : Var) (ls : List ℕ) (most : ℕ) → length ls ≤ most → 0 < most → size (Dump.frame_text i p v ls) ≤ 64 + 21 * most
+pub frame-size : (i p : ℕ) (v : Option ℕ) (ls : List ℕ) (most : ℕ) → length ls ≤ most → 0 < most → size (Dump.frame_text i p v ls) ≤ 64 + 21 * most
 frame-size i p v ls most h g = omega (arith, decimal-size i, decimal-size p, var-size v, lengths_size ls most h g)
 
 pub constant-size : (k : ℕ) → size (Dump.constant_text k) ≤ 85

@@ -1,22 +1,20 @@
 -- "state RUNNING NEXT COUNTER | F F.. | COUNT P P.. | I=KIND:BITS .. | COUNT HEX": the pieces of each part.
-use Rattle.std.specs.Prelude.{ℕ, List, [], ◌∷◌, ◌++◌, length}
+use Rattle.std.specs.Prelude.{ℕ, Option, Some, None, List, [], ◌∷◌, ◌++◌, length}
 use Rattle.words.specs.Ascii.{ascii}
 use Rattle.words.specs.Number.{decimal}
 use Rattle.words.specs.Hex.{hex_of}
 use Rattle.words.specs.Kinds.{name_of}
 use Rattle.answers.specs.Lines.{Pieces, ending, labelled}
-use Rattle.answers.specs.declared.Var.{Var}
-use Rattle.answers.specs.declared.Var.TheVariants.{None, At}
 
 abbrev pub state_text : (running next counter : ℕ) → Pieces
 state_text r n c = labelled (ascii "state ") r ++ labelled (ascii " ") n ++ labelled (ascii " ") c ++ (ascii " |" ∷ [])
 
 -- "VAR `-` for none"
-abbrev pub var_piece : Var → List ℕ
-var_piece (At n) = decimal n
+abbrev pub var_piece : Option ℕ → List ℕ
+var_piece (Some n) = decimal n
 var_piece None = ascii "-"
 
-abbrev pub var_text : Var → Pieces
+abbrev pub var_text : Option ℕ → Pieces
 var_text v = var_piece v ∷ []
 
 -- "the lengths of its allocations parted by commas, `-` where it has none"
@@ -33,10 +31,10 @@ lengths_text [] = ascii "-" ∷ []
 lengths_text (l ∷ ls) = decimal l ∷ more_lengths ls
 
 -- "ID:PLACE:VAR:LENGTHS", after a space
-abbrev pub frame_head : (id place : ℕ) → Var → Pieces
+abbrev pub frame_head : (id place : ℕ) → Option ℕ → Pieces
 frame_head i p v = labelled (ascii " ") i ++ labelled (ascii ":") p ++ (ascii ":" ∷ []) ++ var_text v ++ (ascii ":" ∷ [])
 
-abbrev pub frame_text : (id place : ℕ) → Var → List ℕ → Pieces
+abbrev pub frame_text : (id place : ℕ) → Option ℕ → List ℕ → Pieces
 frame_text i p v ls = frame_head i p v ++ lengths_text ls
 
 -- "cK" and "lFRAME:ID:ALLOCATION:OFFSET", after a space

@@ -15,7 +15,7 @@ use Rattle.words.specs.Words.{until}
 use Rattle.words.proofs.Whole.{joined}
 use Rattle.answers.specs.Lines.{Pieces, labelled}
 use Rattle.answers.specs.Dump.{state_text, store_text}
-use Rattle.answers.specs.declared.Var.TheVariants.{None, At}
+use Rattle.std.specs.Prelude.{Some, None}
 use Rattle.answers.proofs.Again.{Item, fixed, num, hex, Held, ended, Again, again}
 use Rattle.answers.proofs.Written.{follow_append, ended_follow, AllHeld, held-append, all_held, Part, nothing, word, both, either}
 use Rattle.memory.specs.declared.Registers.{Registers}
@@ -49,7 +49,7 @@ var-held : (w : ℕ) → w < 2 ^ 64 → Held (var_item (var_of w))
 unfolding until
 var-held w h = go (eqb w 0)
   where
-    go : (t : Bool) → Held (var_item (pick t None (At (w - 1))))
+    go : (t : Bool) → Held (var_item (pick t None (Some (w - 1))))
     go true = (refl, refl)
     go false = omega arith
 
@@ -71,7 +71,6 @@ frame_items fr ls i =
     (take (get_or fr (i * 4 + 7) 0 - get_or fr (i * 4 + 3) 0) (drop (get_or fr (i * 4 + 3) 0) ls)) ∷ []
 
 frames-part : (d : ℕ) (fr ls : List ℕ) → Below (2 ^ 64) fr → Below (2 ^ 64) ls → Part [] (frames_text d fr ls) (things (min d 64) 0 (frame_items fr ls))
-unfolding frame_at
 frames-part d fr ls h g =
     every (frame_at fr ls) (frame_items fr ls) (min d 64) 0
     (λ i l. frame-part (get_or fr (i * 4) 0) (get_or fr (i * 4 + 1) 0) (var_of (get_or fr (i * 4 + 2) 0))
@@ -92,7 +91,6 @@ abbrev pub pointers_items : (count : ℕ) → List ℕ → List Item
 pointers_items n ps = bar ∷ num n ∷ [] ++ pick (eqb n 0) (dash ∷ []) (things (min n 4096) 0 (pointer_items ps))
 
 pointers-part : (n : ℕ) (ps : List ℕ) → n < 2 ^ 64 → Below (2 ^ 64) ps → Part [] (pointers_text n ps) (pointers_items n ps)
-unfolding pointer_at
 pointers-part n ps l h =
     both (counted n l)
     (either (eqb n 0) (λ e. one_dash)
@@ -109,7 +107,7 @@ abbrev pub variables_items : List ℕ → List Item
 variables_items vs = bar ∷ [] ++ pick (none_set 256 vs 0) (dash ∷ []) (things 256 0 (variable_items vs))
 
 variables-part : (vs : List ℕ) → Below (2 ^ 64) vs → ((i : ℕ) → get_or vs (i * 2) 0 < 15) → Part [] (variables_text vs) (variables_items vs)
-unfolding until variable_at
+unfolding until
 variables-part vs h g =
     both (word (ascii " |" ∷ []) bar (λ rest. refl) (refl, refl))
     (either (none_set 256 vs 0) (λ e. one_dash)

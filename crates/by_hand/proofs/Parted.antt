@@ -15,8 +15,7 @@ use Rattle.words.specs.Words.{until}
 use Rattle.words.proofs.Whole.{joined}
 use Rattle.answers.specs.Lines.{Pieces}
 use Rattle.answers.specs.Dump.{var_piece, more_lengths, lengths_text, frame_text, constant_text, local_text, variable_text}
-use Rattle.answers.specs.declared.Var.{Var}
-use Rattle.answers.specs.declared.Var.TheVariants.{None, At}
+use Rattle.std.specs.Prelude.{Option, Some, None}
 use Rattle.answers.proofs.Again.{number_without, name_without, no_colon, no_equals, Item, fixed, num, kind, shown, Held, parted, All, Apart, Lacks, parted_without, apart}
 use Rattle.answers.proofs.Written.{parted_to, parted_to_lem, Part, nothing, word, either}
 
@@ -26,8 +25,8 @@ abbrev pub dash : Item
 dash = fixed (ascii "-")
 
 -- "VAR `-` for none"
-abbrev pub var_item : Var → Item
-var_item (At n) = num n
+abbrev pub var_item : Option ℕ → Item
+var_item (Some n) = num n
 var_item None = dash
 
 -- "the lengths of its allocations parted by commas, `-` where it has none"
@@ -36,7 +35,7 @@ lengths_item [] = dash
 lengths_item (l ∷ ls) = fixed (parted 44 (num l) (map num ls))
 
 -- "ID:PLACE:VAR:LENGTHS"
-abbrev pub frame_item : (id place : ℕ) → Var → List ℕ → Item
+abbrev pub frame_item : (id place : ℕ) → Option ℕ → List ℕ → Item
 frame_item i p v ls = fixed (parted 58 (num i) (num p ∷ var_item v ∷ lengths_item ls ∷ []))
 
 -- "cK" and "lFRAME:ID:ALLOCATION:OFFSET"
@@ -84,12 +83,12 @@ unfolding until
 lengths_lack [] = refl
 lengths_lack (l ∷ ls) = parted_without 44 58 refl (num l) (map num ls) (nums_lack 58 colon l ls)
 
-var_lacks : (v : Var) → Lacks 58 (var_item v)
+var_lacks : (v : Option ℕ) → Lacks 58 (var_item v)
 unfolding until
-var_lacks (At n) = colon n
+var_lacks (Some n) = colon n
 var_lacks None = refl
 
-pub frame_again : (i p : ℕ) (v : Var) (ls : List ℕ) → i < 2 ^ 64 → p < 2 ^ 64 → Held (var_item v) → Below (2 ^ 64) ls
+pub frame_again : (i p : ℕ) (v : Option ℕ) (ls : List ℕ) → i < 2 ^ 64 → p < 2 ^ 64 → Held (var_item v) → Below (2 ^ 64) ls
     → Apart 58 (num i) (num p ∷ var_item v ∷ lengths_item ls ∷ [])
 frame_again i p v ls a b c d =
     apart 58 refl refl (num i) (num p ∷ var_item v ∷ lengths_item ls ∷ []) (colon i, (colon p, (var_lacks v, lengths_lack ls))) (a, (b, (c, lengths_held ls d)))
@@ -114,8 +113,8 @@ variable_again i t b g l u h =
 
 -- ---- the pieces are these words
 
-var-shown : (v : Var) → var_piece v ≡ shown (var_item v)
-var-shown (At n) = refl
+var-shown : (v : Option ℕ) → var_piece v ≡ shown (var_item v)
+var-shown (Some n) = refl
 var-shown None = refl
 
 more-text : (l : ℕ) (ls : List ℕ) (rest : Pieces) → decimal l ++ joined (more_lengths ls ++ rest) ≡ parted_to 44 (num l) (map num ls) (joined rest)
@@ -128,7 +127,7 @@ unfolding lengths_text
 lengths_text_lem [] rest = refl
 lengths_text_lem (l ∷ ls) rest = more-text l ls rest ∙ parted_to_lem 44 (num l) (map num ls) (joined rest)
 
-pub frame-part : (i p : ℕ) (v : Var) (ls : List ℕ) → i < 2 ^ 64 → p < 2 ^ 64 → Held (var_item v) → Below (2 ^ 64) ls
+pub frame-part : (i p : ℕ) (v : Option ℕ) (ls : List ℕ) → i < 2 ^ 64 → p < 2 ^ 64 → Held (var_item v) → Below (2 ^ 64) ls
     → Part [] (frame_text i p v ls) (frame_item i p v ls ∷ [])
 frame-part i p v ls a b c d = word (frame_text i p v ls) (frame_item i p v ls) text (frame_again i p v ls a b c d).whole
   where

@@ -39,7 +39,6 @@ part_count : (n k : ℕ) (ls : List ℕ) → length (take n (drop k ls)) ≤ len
 part_count n k ls = omega (arith, length-take n (drop k ls), min-le_right n (length (drop k ls)), length-drop k ls)
 
 frames-size : (d : ℕ) (fr ls : List ℕ) → length ls ≡ 512 → size (frames_text d fr ls) ≤ 692224
-unfolding frame_at
 frames-size d fr ls h =
     let each-frame = each-size 10816 (frame_at fr ls) (min d 64) 0
     (λ i l. frame-size (get_or fr (i * 4) 0) (get_or fr (i * 4 + 1) 0) (var_of (get_or fr (i * 4 + 2) 0))
@@ -50,7 +49,6 @@ frames-size d fr ls h =
 -- ---- pointers: 4,096, the longest local
 
 pointer-size : (ps : List ℕ) (p : ℕ) → size (pointer_at ps p) ≤ 85
-unfolding pointer_at
 pointer-size ps p =
     either (λ x. size x ≤ 85) (eqb (get_or ps (p * 5) 0) 0)
     (λ e. local-size (get_or ps (p * 5 + 1) 0) (get_or ps (p * 5 + 2) 0) (get_or ps (p * 5 + 3) 0) (get_or ps (p * 5 + 4) 0))
@@ -66,7 +64,6 @@ pointers-size n ps =
 -- ---- variables: 256, each of a place with three digits
 
 variable_at_size : (vs : List ℕ) (i : ℕ) → i < 256 → size (variable_at vs i) ≤ 33
-unfolding variable_at
 variable_at_size vs i h =
     either (λ x. size x ≤ 33) (eqb (get_or vs (i * 2) 0) 0) (λ e. omega arith) (λ e. variable-size i (get_or vs (i * 2) 0) (get_or vs (i * 2 + 1) 0) (omega arith))
 

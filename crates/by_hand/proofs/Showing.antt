@@ -12,12 +12,15 @@ use lib.Seq.{take_all, take-suc-set}
 use lib.Dec.{eqb}
 use borrow.Author.Tests.{eq-eqb, ne_eqb}
 use Rattle.words.specs.Ascii.{ascii}
-use Rattle.words.specs.Text.{Text, puts}
+use Rattle.std.specs.Prelude.{Option, None}
+use Rattle.std.specs.List.{range_with_len, list_all}
+use Rattle.words.specs.Text.{Text, text, puts}
+use Rattle.value.specs.Answer.{pick}
 use Rattle.answers.specs.Lines.{Pieces, labelled}
 use Rattle.memory.specs.declared.Registers.{Registers}
 use Rattle.answers.specs.Dump.{state_text, frame_text, constant_text, local_text, variable_text, store_text}
-use Rattle.answers.specs.declared.Var.{Var}
 use Rattle.answers.proofs.Parts.{puts-append}
+use Rattle.words.proofs.Whole.{nones_stay}
 use Rattle.by_hand.specs.State.{none, each, var_of, lengths_from, frame_at, pointer_at, pointers_text, variable_at, none_set, variables_text, lengths_of, frames_text, live_bytes, dump_line}
 
 -- ---- lists of things
@@ -34,6 +37,10 @@ module _ (n i : ℕ) (f : ℕ → Pieces) (t : Text) where
   no_more_each h w =
       let m : 0 ≡ n - i = omega arith in
       ap (λ (k : ℕ). puts (each k i f) t) m ∙ w
+
+-- a thing had no room: those after it are not put
+pub stopped-each : (n i : ℕ) (f : ℕ → Pieces) (t : Text) (bs : List ℕ) {whole : Text} → i < n → text None bs ≡ puts (f i) t → puts (each (n - i) i f) t ≡ whole → text None bs ≡ whole
+stopped-each n i f t bs h e w = sym (nones_stay (each (n - (i + 1)) (i + 1) f) bs) ∙ more-each n i f t h e w
 
 pub each_start : (n k : ℕ) (f : ℕ → Pieces) (t : Text) → n ≡ k → puts (each (n - 0) 0 f) t ≡ puts (each k 0 f) t
 each_start n k f t h = let e : n - 0 ≡ k = omega arith in ap (λ (m : ℕ). puts (each m 0 f) t) e
@@ -121,53 +128,38 @@ module _ (l : List ℕ) (a e from to : ℕ) (p : to ≡ min e (length l)) (q : f
 
 -- ---- variables
 
-module _ (vs : List ℕ) (n i : ℕ) {whole : Bool} (h : i < n) (w : none_set (n - i) vs i ≡ whole) where
-  here : none_set (n - i) vs i ≡ (eqb (get_or vs (i * 2) 0) 0 && none_set (n - (i + 1)) vs (i + 1))
-  unfolding none_set
-  here = let m : n - i ≡ suc (n - (i + 1)) = omega arith in ap (λ (k : ℕ). none_set k vs i) m
-
-  pub one_set : (get_or vs (i * 2) 0 ≡ 0 → ⊥) → false ≡ whole
-  one_set e = sym (here ∙ rw (ne_eqb (get_or vs (i * 2) 0) 0 e)) ∙ w
-
-  pub not_set : get_or vs (i * 2) 0 ≡ 0 → none_set (n - (i + 1)) vs (i + 1) ≡ whole
-  not_set e = sym (here ∙ rw (eq-eqb (get_or vs (i * 2) 0) 0 e)) ∙ w
-
-pub all-unset : (vs : List ℕ) (n i : ℕ) {whole : Bool} → n ≤ i → none_set (n - i) vs i ≡ whole → true ≡ whole
+pub all-unset : (vs : List ℕ) (n i : ℕ) → list_all (λ (k : ℕ). eqb (get_or vs (k * 2) 0) 0) (range_with_len i n) ≡ none_set n vs i
 unfolding none_set
-all-unset vs n i h w = let m : 0 ≡ n - i = omega arith in ap (λ (k : ℕ). none_set k vs i) m ∙ w
+all-unset vs zero i = refl
+all-unset vs (suc n) i = ap (λ (b : Bool). eqb (get_or vs (i * 2) 0) 0 && b) (all-unset vs n (i + 1))
 
 -- ---- frames, pointers and variables as they are shown
 
-module _ (fr ls : List ℕ) (i : ℕ) {id place w₇ w₃ w₂ to from : ℕ} {v : Var} {t : Text} (u : Text) where
+module _ (fr ls : List ℕ) (i : ℕ) {id place w₇ w₃ w₂ to from : ℕ} {v : Option ℕ} {t : Text} (u : Text) where
   pub frame-shown : w₇ ≡ get_or fr (i * 4 + 7) 0 → to ≡ min w₇ (length ls) → w₃ ≡ get_or fr (i * 4 + 3) 0 → from ≡ min w₃ to → w₂ ≡ get_or fr (i * 4 + 2) 0 → v ≡ var_of w₂
       → id ≡ get_or fr (i * 4) 0 → place ≡ get_or fr (i * 4 + 1) 0 → t ≡ puts (frame_text id place v (take (to - from) (drop from ls))) u → t ≡ puts (frame_at fr ls i) u
-  unfolding frame_at
   frame-shown a p b q c d e f h =
       let g = between ls w₃ w₇ from to p q in
       let x : v ≡ var_of (get_or fr (i * 4 + 2) 0) = d ∙ ap var_of c in
       let y : take (to - from) (drop from ls) ≡ take (get_or fr (i * 4 + 7) 0 - get_or fr (i * 4 + 3) 0) (drop (get_or fr (i * 4 + 3) 0) ls) = g ∙ ap₂ (λ (m n : ℕ). take (m - n) (drop n ls)) a b in
       h ∙ ap₂ (λ (m n : ℕ). puts (frame_text m n v (take (to - from) (drop from ls))) u) e f
-      ∙ ap₂ (λ (m : Var) (n : List ℕ). puts (frame_text (get_or fr (i * 4) 0) (get_or fr (i * 4 + 1) 0) m n) u) x y
+      ∙ ap₂ (λ (m : Option ℕ) (n : List ℕ). puts (frame_text (get_or fr (i * 4) 0) (get_or fr (i * 4 + 1) 0) m n) u) x y
 
 module _ (ps : List ℕ) (p : ℕ) {kind index : ℕ} (u : Text) {t : Text} (k : kind ≡ get_or ps (p * 5) 0) (x : index ≡ get_or ps (p * 5 + 1) 0) where
   pub constant-shown : (kind ≡ 0 → ⊥) → t ≡ puts (constant_text index) u → t ≡ puts (pointer_at ps p) u
-  unfolding pointer_at
   constant-shown n h = rw (ne_eqb (get_or ps (p * 5) 0) 0 (λ z. n (k ∙ z))) (h ∙ ap (λ (m : ℕ). puts (constant_text m) u) x)
 
   pub local-shown : {id allocation offset : ℕ} → kind ≡ 0 → id ≡ get_or ps (p * 5 + 2) 0 → allocation ≡ get_or ps (p * 5 + 3) 0 → offset ≡ get_or ps (p * 5 + 4) 0
       → t ≡ puts (local_text index id allocation offset) u → t ≡ puts (pointer_at ps p) u
-  unfolding pointer_at
   local-shown {id} {allocation} {offset} z a b c h =
       rw (eq-eqb (get_or ps (p * 5) 0) 0 (sym k ∙ z))
       (h ∙ ap₂ (λ (m n : ℕ). puts (local_text m n allocation offset) u) x a ∙ ap₂ (λ (m n : ℕ). puts (local_text (get_or ps (p * 5 + 1) 0) (get_or ps (p * 5 + 2) 0) m n) u) b c)
 
 module _ (vs : List ℕ) (i : ℕ) {tag : ℕ} (u : Text) (k : tag ≡ get_or vs (i * 2) 0) where
   pub unset-shown : tag ≡ 0 → u ≡ puts (variable_at vs i) u
-  unfolding variable_at
   unset-shown z = rw (eq-eqb (get_or vs (i * 2) 0) 0 (sym k ∙ z))
 
   pub set-shown : {bits : ℕ} {t : Text} → (tag ≡ 0 → ⊥) → bits ≡ get_or vs (i * 2 + 1) 0 → t ≡ puts (variable_text i tag bits) u → t ≡ puts (variable_at vs i) u
-  unfolding variable_at
   set-shown n b h = rw (ne_eqb (get_or vs (i * 2) 0) 0 (λ z. n (k ∙ z))) (h ∙ ap₂ (λ (m n : ℕ). puts (variable_text i m n) u) k b)
 
 -- ---- the parts of the line
@@ -187,17 +179,55 @@ module _ (vs : List ℕ) {set : Bool} {r a : Text} (t : Text) (p : a ≡ puts (a
   pub some-variables : set ≡ false → r ≡ puts (each 256 0 (variable_at vs)) a → r ≡ puts (variables_text vs) t
   some-variables z h = rw (sym s ∙ z) (h ∙ ap (puts (each 256 0 (variable_at vs))) p)
 
-pub five : (a b c d e : Pieces) (t : Text) {t₁ t₂ t₃ t₄ t₅ : Text} → t₁ ≡ puts a t → t₂ ≡ puts b t₁ → t₃ ≡ puts c t₂ → t₄ ≡ puts d t₃ → t₅ ≡ puts e t₄
-    → t₅ ≡ puts (a ++ b ++ c ++ d ++ e) t
-five a b c d e t p q r s w =
-    w ∙ ap (puts e) (s ∙ ap (puts d) (r ∙ ap (puts c) (q ∙ ap (puts b) p)))
-    ∙ sym (puts-append (a ++ b ++ c ++ d) e t ∙ ap (puts e) (puts-append (a ++ b ++ c) d t ∙ ap (puts d) (puts-append (a ++ b) c t ∙ ap (puts c) (puts-append a b t))))
+-- a part had no room: those after it are not put
+stops : (a b : Pieces) (t : Text) (bs : List ℕ) → text None bs ≡ puts a t → text None bs ≡ puts (a ++ b) t
+stops a b t bs h = sym (puts-append a b t ∙ ap (puts b) (sym h) ∙ nones_stay b bs)
+
+then : (a b : Pieces) (t : Text) {t₁ t₂ : Text} → t₁ ≡ puts a t → t₂ ≡ puts b t₁ → t₂ ≡ puts (a ++ b) t
+then a b t p q = q ∙ ap (puts b) p ∙ sym (puts-append a b t)
+
+pub pointers-stop : (n : ℕ) (ps : List ℕ) (t : Text) (bs : List ℕ) → text None bs ≡ puts (labelled (ascii " | ") n) t → text None bs ≡ puts (pointers_text n ps) t
+pointers-stop n ps t bs h = stops (labelled (ascii " | ") n) (pick (eqb n 0) none (each (min n 4096) 0 (pointer_at ps))) t bs h
+
+pub variables-stop : (vs : List ℕ) (t : Text) (bs : List ℕ) → text None bs ≡ puts (ascii " |" ∷ []) t → text None bs ≡ puts (variables_text vs) t
+variables-stop vs t bs h = stops (ascii " |" ∷ []) (pick (none_set 256 vs 0) none (each 256 0 (variable_at vs))) t bs h
 
 module _ (m : Registers) (store fr bounds ps vs : List ℕ) (t : Text) where
-  pub dump-shown : (t₁ t₂ t₃ t₄ : Text) {t₅ : Text} (ls : List ℕ) (live used : ℕ) → t₁ ≡ puts (state_text m.running m.next m.counter) t → ls ≡ lengths_of bounds
-      → t₂ ≡ puts (frames_text m.depth fr ls) t₁ → t₃ ≡ puts (pointers_text m.pointers ps) t₂ → t₄ ≡ puts (variables_text vs) t₃
-      → live ≡ live_bytes m.depth fr bounds → used ≡ min live (length store) → t₅ ≡ puts (store_text (take used store)) t₄ → t₅ ≡ puts (dump_line m store fr bounds ps vs) t
-  dump-shown t₁ t₂ t₃ t₄ ls live used a l b c d n u e =
-      five (state_text m.running m.next m.counter) (frames_text m.depth fr (lengths_of bounds)) (pointers_text m.pointers ps) (variables_text vs)
-      (store_text (take (live_bytes m.depth fr bounds) store)) t a (b ∙ ap (λ (x : List ℕ). puts (frames_text m.depth fr x) t₁) l) c d
-      (e ∙ ap (λ (x : List ℕ). puts (store_text x) t₄) (taken store live used u ∙ ap (λ (k : ℕ). take k store) n))
+  abbrev first : Pieces
+  first = state_text m.running m.next m.counter
+
+  abbrev second : Pieces
+  second = frames_text m.depth fr (lengths_of bounds)
+
+  abbrev third : Pieces
+  third = pointers_text m.pointers ps
+
+  abbrev fourth : Pieces
+  fourth = variables_text vs
+
+  abbrev fifth : Pieces
+  fifth = store_text (take (live_bytes m.depth fr bounds) store)
+
+  pub state-stops : (bs : List ℕ) → text None bs ≡ puts (state_text m.running m.next m.counter) t → text None bs ≡ puts (dump_line m store fr bounds ps vs) t
+  state-stops bs h = stops (first ++ second ++ third ++ fourth) fifth t bs (stops (first ++ second ++ third) fourth t bs (stops (first ++ second) third t bs (stops first second t bs h)))
+
+  module _ (t₁ : Text) (ls : List ℕ) (a : t₁ ≡ puts (state_text m.running m.next m.counter) t) (l : ls ≡ lengths_of bounds) where
+    framed : {u : Text} → u ≡ puts (frames_text m.depth fr ls) t₁ → u ≡ puts (first ++ second) t
+    framed b = then first second t a (b ∙ ap (λ (x : List ℕ). puts (frames_text m.depth fr x) t₁) l)
+
+    pub frames-stop : (bs : List ℕ) → text None bs ≡ puts (frames_text m.depth fr ls) t₁ → text None bs ≡ puts (dump_line m store fr bounds ps vs) t
+    frames-stop bs h = stops (first ++ second ++ third ++ fourth) fifth t bs (stops (first ++ second ++ third) fourth t bs (stops (first ++ second) third t bs (framed h)))
+
+    module _ (t₂ : Text) (b : t₂ ≡ puts (frames_text m.depth fr ls) t₁) where
+      pub pointed_stop : (bs : List ℕ) → text None bs ≡ puts (pointers_text m.pointers ps) t₂ → text None bs ≡ puts (dump_line m store fr bounds ps vs) t
+      pointed_stop bs h = stops (first ++ second ++ third ++ fourth) fifth t bs (stops (first ++ second ++ third) fourth t bs (then (first ++ second) third t (framed b) h))
+
+      module _ (t₃ : Text) (c : t₃ ≡ puts (pointers_text m.pointers ps) t₂) where
+        pub varied_stop : (bs : List ℕ) → text None bs ≡ puts (variables_text vs) t₃ → text None bs ≡ puts (dump_line m store fr bounds ps vs) t
+        varied_stop bs h = stops (first ++ second ++ third ++ fourth) fifth t bs (then (first ++ second ++ third) fourth t (then (first ++ second) third t (framed b) c) h)
+
+        pub dump-shown : (t₄ : Text) {t₅ : Text} (live used : ℕ) → t₄ ≡ puts (variables_text vs) t₃ → live ≡ live_bytes m.depth fr bounds → used ≡ min live (length store)
+            → t₅ ≡ puts (store_text (take used store)) t₄ → t₅ ≡ puts (dump_line m store fr bounds ps vs) t
+        dump-shown t₄ live used d n u e =
+            then (first ++ second ++ third ++ fourth) fifth t (then (first ++ second ++ third) fourth t (then (first ++ second) third t (framed b) c) d)
+            (e ∙ ap (λ (x : List ℕ). puts (store_text x) t₄) (taken store live used u ∙ ap (λ (k : ℕ). take k store) n))

@@ -1,12 +1,10 @@
 -- "`state RUNNING NEXT COUNTER | F F.. | COUNT P P.. | I=KIND:BITS .. | COUNT HEX`", as the tables hold it. "An empty list of pointers, variables
 -- or bytes is `-`."
-use Rattle.std.specs.Prelude.{ℕ, zero, suc, ◌+◌, ◌-◌, ◌*◌, min, Bool, true, ◌&&◌, List, [], ◌∷◌, ◌++◌, get_or, take, drop, eqb}
+use Rattle.std.specs.Prelude.{ℕ, zero, suc, ◌+◌, ◌-◌, ◌*◌, min, Bool, true, ◌&&◌, Option, Some, None, List, [], ◌∷◌, ◌++◌, get_or, take, drop, eqb}
 use Rattle.value.specs.Answer.{pick}
 use Rattle.words.specs.Ascii.{ascii}
 use Rattle.answers.specs.Lines.{Pieces, labelled}
 use Rattle.answers.specs.Dump.{state_text, frame_text, constant_text, local_text, variable_text, store_text}
-use Rattle.answers.specs.declared.Var.{Var}
-use Rattle.answers.specs.declared.Var.TheVariants as var
 use Rattle.memory.specs.declared.Registers.{Registers}
 
 abbrev pub none : Pieces
@@ -20,8 +18,8 @@ each (suc n) i f = f i ++ each n (i + 1) f
 -- ---- frames
 
 -- a word says the return variable and one, or 0 for none
-abbrev pub var_of : ℕ → Var
-var_of w = pick (eqb w 0) var.None (var.At (w - 1))
+abbrev pub var_of : ℕ → Option ℕ
+var_of w = pick (eqb w 0) None (Some (w - 1))
 
 -- from each allocation's start to the next one's
 unfoldable pub lengths_from : (count : ℕ) → List ℕ → (from : ℕ) → List ℕ
@@ -32,7 +30,7 @@ abbrev pub lengths_of : List ℕ → List ℕ
 lengths_of bounds = lengths_from 512 bounds 0
 
 -- those of one frame: from its first allocation to the next frame's
-unfoldable pub frame_at : (frames lengths : List ℕ) → ℕ → Pieces
+abbrev pub frame_at : (frames lengths : List ℕ) → ℕ → Pieces
 frame_at fr ls i =
     frame_text (get_or fr (i * 4) 0) (get_or fr (i * 4 + 1) 0) (var_of (get_or fr (i * 4 + 2) 0))
     (take (get_or fr (i * 4 + 7) 0 - get_or fr (i * 4 + 3) 0) (drop (get_or fr (i * 4 + 3) 0) ls))
@@ -42,7 +40,7 @@ frames_text d fr ls = each (min d 64) 0 (frame_at fr ls)
 
 -- ---- pointers
 
-unfoldable pub pointer_at : List ℕ → ℕ → Pieces
+abbrev pub pointer_at : List ℕ → ℕ → Pieces
 pointer_at ps p =
     pick (eqb (get_or ps (p * 5) 0) 0)
     (local_text (get_or ps (p * 5 + 1) 0) (get_or ps (p * 5 + 2) 0) (get_or ps (p * 5 + 3) 0) (get_or ps (p * 5 + 4) 0)) (constant_text (get_or ps (p * 5 + 1) 0))
@@ -52,7 +50,7 @@ pointers_text n ps = labelled (ascii " | ") n ++ pick (eqb n 0) none (each (min 
 
 -- ---- variables
 
-unfoldable pub variable_at : List ℕ → ℕ → Pieces
+abbrev pub variable_at : List ℕ → ℕ → Pieces
 variable_at vs i = pick (eqb (get_or vs (i * 2) 0) 0) [] (variable_text i (get_or vs (i * 2) 0) (get_or vs (i * 2 + 1) 0))
 
 unfoldable pub none_set : (count : ℕ) → List ℕ → (from : ℕ) → Bool

@@ -1,23 +1,12 @@
 // Changes of the state by hand, with no check at all.
 ghost use Rattle.std.specs.Prelude.{◌≡◌, ◌-◌, ◌<◌, min};
 ghost use Rattle.memory.specs.Tables.{pointer, with_pointers};
-ghost use Rattle.by_hand.specs.Changes.{variable_put, frame_put, word_put, pointer_put, constants_put, with_depth, register_put, poked, poked_of};
-ghost use Rattle.by_hand.specs.Changes.{more as Changes·more};
+ghost use Rattle.by_hand.specs.Changes.{more, variable_put, frame_put, word_put, pointer_put, constants_put, with_depth, poked, poked_of};
 
 use crate::table::{put, word_at};
-use commands::{Asked, command};
+use commands::Parts;
+use commands::command::Poke;
 use memory::{CONSTANT, LOCAL, MAX_DEPTH, MAX_POINTERS, PointerRecord, Registers};
-use words::bound::least;
-
-// A count, as 64 bits hold it.
-fn more(n: usize, by: u64) -> usize
-    ensures { result ≡ Changes·more n by }
-{
-    if 18446744073709551615 - by < n as u64 {
-        return 18446744073709551615;
-    }
-    n + by as usize
-}
 
 // The variable's tag and bits: both 0 where it is unset.
 fn poke_variable(place: u64, tag: u64, bits: u64, vars: &mut [u64])
@@ -45,12 +34,13 @@ fn push(d: usize, id: u64, place: u64, variable: u64, frames: &mut [u64])
 }
 
 fn poke_frame(m: Registers, id: u64, place: u64, variable: u64, frames: &mut [u64]) -> Registers
-    ensures { (result ≡ with_depth m (Changes·more m.depth 1)) × (frames.new ≡ frame_put frames.old m.depth id place variable) }
+    ensures { (result ≡ with_depth m (more m.depth 1)) × (frames.new ≡ frame_put frames.old m.depth id place variable) }
 {
     push(m.depth, id, place, variable, frames);
-    let mut n = m;
-    n.depth = more(m.depth, 1);
-    n
+    Registers {
+        depth: m.depth.saturating_add(1),
+        ..m
+    }
 }
 
 // A word of a frame's record: 0 its id, 1 its return place, 2 its return variable.
@@ -86,7 +76,7 @@ fn poke_local(
     offset: u64,
     pointers: &mut [u64],
 ) -> Registers
-    ensures { (result ≡ with_pointers m (Changes·more m.pointers 1)) × (pointers.new ≡ pointer_put pointers.old m.pointers (pointer 0 frame id allocation offset)) }
+    ensures { (result ≡ with_pointers m (more m.pointers 1)) × (pointers.new ≡ pointer_put pointers.old m.pointers (pointer 0 frame id allocation offset)) }
 {
     let q = PointerRecord {
         kind: LOCAL,
@@ -96,9 +86,10 @@ fn poke_local(
         offset,
     };
     put_pointer(pointers, m.pointers, q);
-    let mut n = m;
-    n.pointers = more(m.pointers, 1);
-    n
+    Registers {
+        pointers: m.pointers.saturating_add(1),
+        ..m
+    }
 }
 
 // Pointers to a constant from one number to another.
@@ -112,78 +103,51 @@ fn put_constants(pointers: &mut [u64], from: usize, to: usize, constant: u64)
         allocation: 0,
         offset: 0,
     };
-    let mut p = from;
-    while p < to {
+    for p in from..to {
         put_pointer(pointers, p, q);
-        p += 1;
     }
 }
 
 // So many pointers more to a constant.
 fn poke_constants(m: Registers, constant: u64, count: u64, pointers: &mut [u64]) -> Registers
-    ensures { (result ≡ with_pointers m (Changes·more m.pointers count)) × (pointers.new ≡ constants_put (min (Changes·more m.pointers count) 4096 - m.pointers) pointers.old m.pointers constant) }
+    ensures { (result ≡ with_pointers m (more m.pointers count)) × (pointers.new ≡ constants_put (min (more m.pointers count) 4096 - m.pointers) pointers.old m.pointers constant) }
 {
-    let end = more(m.pointers, count);
-    put_constants(pointers, m.pointers, least(end, MAX_POINTERS), constant);
-    let mut n = m;
-    n.pointers = end;
-    n
+    let end = m.pointers.saturating_add(count as usize);
+    put_constants(pointers, m.pointers, end.min(MAX_POINTERS), constant);
+    Registers { pointers: end, ..m }
 }
 
-fn poke_register(m: Registers, what: u64, v: u64) -> Registers
-    ensures { result ≡ register_put m what v }
-{
-    let mut n = m;
-    if what == command::POKE_COUNTER {
-        n.counter = v;
-        return n;
-    }
-    if what == command::POKE_NEXT {
-        n.next = v as usize;
-        return n;
-    }
-    n.running = v;
-    n
-}
-
-// The change that a line asks.
+// The change of these parts.
 pub fn poke(
     m: Registers,
-    asked: Asked,
+    what: Poke,
+    parts: Parts,
     frames: &mut [u64],
     pointers: &mut [u64],
     vars: &mut [u64],
 ) -> Registers
-    ensures { poked result frames.new pointers.new vars.new ≡ poked_of m asked frames.old pointers.old vars.old }
+    ensures { poked result frames.new pointers.new vars.new ≡ poked_of m what parts frames.old pointers.old vars.old }
 {
-    let what = asked.command;
-    let a = asked.first;
-    let b = asked.second;
-    let c = asked.third;
+    let a = parts.first;
+    let b = parts.second;
+    let c = parts.third;
     match what {
-        command::POKE_FRAME => poke_frame(m, a, b, c, frames),
-        command::POKE_LOCAL => poke_local(m, a, b, c, asked.fourth, pointers),
-        command::POKE_CONST => poke_constants(m, a, b, pointers),
-        command::POKE_VAR => {
-            poke_variable(a, b, c, vars);
-            m
+        Poke::Frame => return poke_frame(m, a, b, c, frames),
+        Poke::Local => return poke_local(m, a, b, c, parts.fourth, pointers),
+        Poke::Const => return poke_constants(m, a, b, pointers),
+        Poke::Counter => return Registers { counter: a, ..m },
+        Poke::Next => {
+            return Registers {
+                next: a as usize,
+                ..m
+            };
         }
-        command::POKE_UNSET => {
-            poke_variable(a, 0, 0, vars);
-            m
-        }
-        command::POKE_ID => {
-            poke_word(a, 0, b, frames);
-            m
-        }
-        command::POKE_PLACE => {
-            poke_word(a, 1, b, frames);
-            m
-        }
-        command::POKE_RVAR => {
-            poke_word(a, 2, b, frames);
-            m
-        }
-        _ => poke_register(m, what, a),
+        Poke::Running => return Registers { running: a, ..m },
+        Poke::Var => poke_variable(a, b, c, vars),
+        Poke::Unset => poke_variable(a, 0, 0, vars),
+        Poke::Id => poke_word(a, 0, b, frames),
+        Poke::Place => poke_word(a, 1, b, frames),
+        Poke::Rvar => poke_word(a, 2, b, frames),
     }
+    m
 }

@@ -1,142 +1,113 @@
--- The commands of the console and the parts of their lines.
-use Rattle.std.specs.Prelude.{ℕ, suc, ◌+◌, ◌*◌, min, ◌≡◌, List, [], ◌∷◌, ◌++◌, length, get_or, ltb}
-use Rattle.value.specs.Answer.{pick}
-use Rattle.value.specs.Bytes.{same_bytes}
-use Rattle.words.specs.Ascii.{ascii}
-use Rattle.words.specs.Words.{words}
-use Rattle.commands.specs.Command as Command
-use Rattle.commands.specs.Parts.{nothing, any, flag, variable, list_room, size, budget, frame, var, kind, bits, hex, some_values, good, bad, part_after, end_after, bytes_after, tags_after, bits_after}
-use Rattle.commands.specs.declared.Spot.{Spot}
+-- What a line of the console, or a start line, asks.
+use Rattle.std.specs.Prelude.{ℕ, min, ◌≡◌, Option, Result, Ok, Err, List, length}
+use Rattle.words.specs.declared.BadWord.{BadWord}
+use Rattle.commands.specs.Parts.{part_after, end_after, bytes_left, tags_left, bits_left}
+use Rattle.commands.specs.Rows.{row_of, start_row}
+use Rattle.commands.specs.Names.{Name, name_read}
+use Rattle.commands.specs.declared.command.Command.{Command}
+use Rattle.commands.specs.declared.part.Part.{Part}
+use Rattle.commands.specs.declared.part.End.{End}
+use Rattle.commands.specs.declared.part.Spot.{Spot}
+use Rattle.commands.specs.declared.row.Row.{Row}
+use Rattle.commands.specs.declared.Parts.{Parts}
 use Rattle.commands.specs.declared.Asked.{Asked}
 
--- ---- names
+-- ---- the parts of a row
 
--- the commands in the order of their numbers, and those after `poke`
-abbrev pub command_names : List ℕ
-command_names = ascii "image fresh allocate write read start step run live rewrite dump poke"
+-- one part after the others; after a word that cannot be read, none
+abbrev pub next_part : Option Part → (depth : ℕ) → Result Spot BadWord → List (List ℕ) → Result Spot BadWord
+next_part p d (Ok s) ws = part_after p d s ws
+next_part p d (Err k) ws = Err k
 
-abbrev pub poke_names : List ℕ
-poke_names = ascii "counter next running var unset frame id place rvar local const"
+-- where reading stands after each part, from a word on, on a machine of this depth
+abbrev pub part₁ : Row → (depth next : ℕ) → List (List ℕ) → Result Spot BadWord
+part₁ r d k ws = part_after r.first d (record { value = 0; next = k }) ws
 
--- the place of the first of these names that a word is, or how many they are
-unfoldable pub place_of : List ℕ → List (List ℕ) → ℕ
-place_of w [] = 0
-place_of w (n ∷ ns) =
-    let more = place_of w ns in
-    pick (same_bytes n w) 0 (suc more)
+abbrev pub part₂ : Row → (depth next : ℕ) → List (List ℕ) → Result Spot BadWord
+part₂ r d k ws = next_part r.second d (part₁ r d k ws) ws
 
--- the command's number, and the place after its name
-unfoldable pub poke_read : List (List ℕ) → Spot
-poke_read ws =
-    let what = place_of (get_or ws 1 []) (words poke_names) in
-    pick (ltb Command.poke_const (Command.poke_counter + what)) (bad 1) (good (Command.poke_counter + what) 2)
+abbrev pub part₃ : Row → (depth next : ℕ) → List (List ℕ) → Result Spot BadWord
+part₃ r d k ws = next_part r.third d (part₂ r d k ws) ws
 
-unfoldable pub name_read : List (List ℕ) → Spot
-name_read ws =
-    let command = place_of (get_or ws 0 []) (words command_names) in
-    let poke = poke_read ws in
-    pick (ltb Command.poke command) (bad 0) (pick (ltb command Command.poke) (good command 1) poke)
+abbrev pub part₄ : Row → (depth next : ℕ) → List (List ℕ) → Result Spot BadWord
+part₄ r d k ws = next_part r.fourth d (part₃ r d k ws) ws
 
--- ---- the parts of each command
+-- where the line ends, with room for so many bytes of HEX and so many values
+abbrev pub end_from : End → (hex_room value_room : ℕ) → Result Spot BadWord → List (List ℕ) → Result ℕ BadWord
+end_from e h v (Ok s) ws = end_after e h v s.next ws
+end_from e h v (Err k) ws = Err k
 
-abbrev pub row : (first second third fourth end : ℕ) → List ℕ
-row a b c d e = a ∷ b ∷ c ∷ d ∷ e ∷ []
+abbrev pub row_end : Row → (depth hex_room value_room next : ℕ) → List (List ℕ) → Result ℕ BadWord
+row_end r d h v k ws = end_from r.end h v (part₄ r d k ws) ws
 
-abbrev pub plain : List ℕ
-plain = row nothing nothing nothing nothing nothing
+abbrev pub value_of : Result Spot BadWord → ℕ
+value_of (Ok s) = s.value
+value_of (Err k) = 0
 
-unfoldable pub host_rows : List ℕ
-host_rows =
-    row nothing nothing nothing nothing hex  -- image HEX
-    ++ plain  -- fresh
-    ++ row any nothing nothing nothing nothing  -- allocate SIZE
-    ++ row any nothing nothing nothing hex  -- write P HEX
-    ++ row any size nothing nothing nothing  -- read P SIZE
-    ++ row any nothing nothing nothing some_values  -- start FUNCTION KIND BITS [KIND BITS]...
-    ++ plain  -- step
-    ++ row budget nothing nothing nothing nothing  -- run BUDGET
-    ++ row list_room nothing nothing nothing nothing  -- live ROOM
-    ++ row size nothing nothing nothing nothing  -- rewrite ROOM
-    ++ plain  -- dump
-    ++ plain  -- poke has its own
+-- the numbers of the parts, and how many bytes or values end them, or the word that cannot be read
+abbrev pub parts_of : (first second third fourth : Result Spot BadWord) → Result ℕ BadWord → Result Parts BadWord
+parts_of a b c d (Ok n) = Ok (record { first = value_of a; second = value_of b; third = value_of c; fourth = value_of d; count = n })
+parts_of a b c d (Err k) = Err k
 
-unfoldable pub poke_rows : List ℕ
-poke_rows =
-    row any nothing nothing nothing nothing  -- counter N
-    ++ row any nothing nothing nothing nothing  -- next N
-    ++ row flag nothing nothing nothing nothing  -- running 0 or 1
-    ++ row variable kind bits nothing nothing  -- var I KIND BITS
-    ++ row variable nothing nothing nothing nothing  -- unset I
-    ++ row any any var nothing nothing  -- frame ID PLACE VAR
-    ++ row frame any nothing nothing nothing  -- id F ID
-    ++ row frame any nothing nothing nothing  -- place F N
-    ++ row frame var nothing nothing nothing  -- rvar F VAR
-    ++ row any any any any nothing  -- local FRAME ID ALLOCATION OFFSET
-    ++ row any any nothing nothing nothing  -- const K N
+-- what a line asks by a row, and what it leaves in the buffers of HEX, of tags and of bits: each as it was, where a part before the end
+-- cannot be read
+abbrev pub row_asked : Row → (depth hex_room value_room next : ℕ) → List (List ℕ) → Result Parts BadWord
+row_asked r d h v k ws = parts_of (part₁ r d k ws) (part₂ r d k ws) (part₃ r d k ws) (part₄ r d k ws) (row_end r d h v k ws)
 
--- the start line of `lir run` has no name: FUNCTION BUDGET KIND BITS [KIND BITS]...
-unfoldable pub rows : List ℕ
-rows = host_rows ++ poke_rows ++ row any budget nothing nothing some_values
+abbrev pub left_from : Result Spot BadWord → (ℕ → List ℕ → List ℕ) → List ℕ → List ℕ
+left_from (Ok s) end before = end s.next before
+left_from (Err k) end before = before
 
-abbrev pub start_line : ℕ
-start_line = 23
+abbrev pub row_bytes : Row → (depth next : ℕ) → List (List ℕ) → List ℕ → List ℕ
+row_bytes r d k ws before = left_from (part₄ r d k ws) (λ at. bytes_left r.end at ws) before
 
--- the sort of a command's part, counted from 0; of its end, the fifth
-unfoldable pub sort_of : (command part : ℕ) → ℕ
-sort_of c p = get_or rows (c * 5 + p) 0
+abbrev pub row_tags : Row → (depth value_room next : ℕ) → List (List ℕ) → List ℕ → List ℕ
+row_tags r d v k ws before = left_from (part₄ r d k ws) (λ at. tags_left r.end v at ws) before
 
--- ---- a line
-
--- where reading stands after each part, on a machine of this depth
-abbrev pub part₁ : (command depth : ℕ) → Spot → List (List ℕ) → Spot
-part₁ c d s ws = part_after (sort_of c 0) d s ws
-
-abbrev pub part₂ : (command depth : ℕ) → Spot → List (List ℕ) → Spot
-part₂ c d s ws = part_after (sort_of c 1) d (part₁ c d s ws) ws
-
-abbrev pub part₃ : (command depth : ℕ) → Spot → List (List ℕ) → Spot
-part₃ c d s ws = part_after (sort_of c 2) d (part₂ c d s ws) ws
-
-abbrev pub part₄ : (command depth : ℕ) → Spot → List (List ℕ) → Spot
-part₄ c d s ws = part_after (sort_of c 3) d (part₃ c d s ws) ws
-
--- what a line asks, of where reading stands after each part and at the end
-abbrev pub spots_asked : (command : ℕ) → (first second third fourth end : Spot) → Asked
-spots_asked command a b c d e =
-    record { command = command; first = a.value; second = b.value; third = c.value; fourth = d.value; count = e.value; bad = e.bad; word = e.next }
-
--- the numbers of its parts, and how many bytes or values end it, or the word that cannot be read
-abbrev pub asked_of : (command depth : ℕ) → Spot → List (List ℕ) → Spot → Asked
-asked_of c d s ws end = spots_asked c (part₁ c d s ws) (part₂ c d s ws) (part₃ c d s ws) (part₄ c d s ws) end
-
--- where reading ends, with room for so many bytes of HEX and so many values
-abbrev pub row_end : (command depth hex_room value_room : ℕ) → Spot → List (List ℕ) → Spot
-row_end c d h v s ws = end_after (sort_of c 4) h v (part₄ c d s ws) ws
-
--- what a line asks by the row of a command, and what it leaves in the buffers of HEX, of tags and of bits
-abbrev pub row_asked : (command depth hex_room value_room : ℕ) → Spot → List (List ℕ) → Asked
-row_asked c d h v s ws = asked_of c d s ws (row_end c d h v s ws)
-
-abbrev pub row_bytes : (command depth : ℕ) → Spot → List (List ℕ) → List ℕ → List ℕ
-row_bytes c d s ws before = bytes_after (sort_of c 4) (part₄ c d s ws) ws before
-
-abbrev pub row_tags : (command depth value_room : ℕ) → Spot → List (List ℕ) → List ℕ → List ℕ
-row_tags c d v s ws before = tags_after (sort_of c 4) v (part₄ c d s ws) ws before
-
-abbrev pub row_bits : (command depth value_room : ℕ) → Spot → List (List ℕ) → List ℕ → List ℕ
-row_bits c d v s ws before = bits_after (sort_of c 4) v (part₄ c d s ws) ws before
+abbrev pub row_bits : Row → (depth value_room next : ℕ) → List (List ℕ) → List ℕ → List ℕ
+row_bits r d v k ws before = left_from (part₄ r d k ws) (λ at. bits_left r.end v at ws) before
 
 -- the answer, and what the three buffers hold afterwards
-pub record Reads (command depth : ℕ) (start : Spot) (ws : List (List ℕ)) (r : Asked) (bytes bytes' tags tags' values values' : List ℕ) : Type 0 where
-  pub answer : r ≡ row_asked command depth (length bytes) (min (length tags) (length values)) start ws
-  pub hexed : bytes' ≡ row_bytes command depth start ws bytes
-  pub kinds : tags' ≡ row_tags command depth (min (length tags) (length values)) start ws tags
-  pub said : values' ≡ row_bits command depth (min (length tags) (length values)) start ws values
+pub record Reads (row : Row) (depth next : ℕ) (ws : List (List ℕ)) (r : Result Parts BadWord) (bytes bytes' tags tags' values values' : List ℕ) : Type 0 where
+  pub answer : r ≡ row_asked row depth (length bytes) (min (length tags) (length values)) next ws
+  pub hexed : bytes' ≡ row_bytes row depth next ws bytes
+  pub kinds : tags' ≡ row_tags row depth (min (length tags) (length values)) next ws tags
+  pub said : values' ≡ row_bits row depth (min (length tags) (length values)) next ws values
 
--- a line of the console: its name, and then the parts of that command
-abbrev pub LineReads : (depth : ℕ) (ws : List (List ℕ)) (r : Asked) (bytes bytes' tags tags' values values' : List ℕ) → Type 0
-LineReads d ws = Reads (name_read ws).value d (name_read ws) ws
+-- ---- a line of the console: its name, and then the parts of that command
 
--- a start line
-abbrev pub StartReads : (ws : List (List ℕ)) (r : Asked) (bytes bytes' tags tags' values values' : List ℕ) → Type 0
-StartReads ws = Reads start_line 0 (good 0 0) ws
+abbrev pub with_command : Command → Result Parts BadWord → Result Asked BadWord
+with_command c (Ok p) = Ok (record { command = c; parts = p })
+with_command c (Err k) = Err k
+
+abbrev pub named_asked : Name → (depth hex_room value_room : ℕ) → List (List ℕ) → Result Asked BadWord
+named_asked (Ok (c, k)) d h v ws = with_command c (row_asked (row_of c) d h v k ws)
+named_asked (Err e) d h v ws = Err e
+
+-- where no command is named, the buffers stay as they were
+abbrev pub named_left : Name → (Row → ℕ → List ℕ → List ℕ) → List ℕ → List ℕ
+named_left (Ok (c, k)) left before = left (row_of c) k before
+named_left (Err e) left before = before
+
+abbrev pub line_asked : (depth hex_room value_room : ℕ) → List (List ℕ) → Result Asked BadWord
+line_asked d h v ws = named_asked (name_read ws) d h v ws
+
+abbrev pub line_bytes : (depth : ℕ) → List (List ℕ) → List ℕ → List ℕ
+line_bytes d ws before = named_left (name_read ws) (λ r k. row_bytes r d k ws) before
+
+abbrev pub line_tags : (depth value_room : ℕ) → List (List ℕ) → List ℕ → List ℕ
+line_tags d v ws before = named_left (name_read ws) (λ r k. row_tags r d v k ws) before
+
+abbrev pub line_bits : (depth value_room : ℕ) → List (List ℕ) → List ℕ → List ℕ
+line_bits d v ws before = named_left (name_read ws) (λ r k. row_bits r d v k ws) before
+
+pub record LineReads (depth : ℕ) (ws : List (List ℕ)) (r : Result Asked BadWord) (bytes bytes' tags tags' values values' : List ℕ) : Type 0 where
+  pub answer : r ≡ line_asked depth (length bytes) (min (length tags) (length values)) ws
+  pub hexed : bytes' ≡ line_bytes depth ws bytes
+  pub kinds : tags' ≡ line_tags depth (min (length tags) (length values)) ws tags
+  pub said : values' ≡ line_bits depth (min (length tags) (length values)) ws values
+
+-- ---- a start line
+
+abbrev pub StartReads : (ws : List (List ℕ)) (r : Result Parts BadWord) (bytes bytes' tags tags' values values' : List ℕ) → Type 0
+StartReads ws = Reads start_row 0 0 ws

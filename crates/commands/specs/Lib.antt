@@ -1,4 +1,4 @@
-pub mod Command
 pub mod Parts
+pub mod Rows
+pub mod Names
 pub mod Commands
-pub mod Named

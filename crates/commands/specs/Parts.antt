@@ -1,5 +1,5 @@
 -- The parts of a line after its command. "What cannot be read, a number out of the range named .., a word too many or too few" is a word of the line.
-use Rattle.std.specs.Prelude.{ℕ, ◌+◌, ◌-◌, ◌^◌, Bool, ◌&&◌, List, [], ◌∷◌, length, get_or, drop, leb, eqb}
+use Rattle.std.specs.Prelude.{ℕ, ◌+◌, ◌-◌, ◌^◌, Option, Some, None, Result, Ok, Err, List, [], length, get_or, drop, leb, eqb}
 use Rattle.std.proofs.lemmas.List.Edits.{sets}
 use Rattle.value.specs.Answer.{pick}
 use Rattle.value.specs.Bytes.{same_bytes}
@@ -8,132 +8,116 @@ use Rattle.words.specs.Number.{up_to}
 use Rattle.words.specs.Hex.{hex_answer, hex_buffer}
 use Rattle.words.specs.Kinds.{kind_read, bits_read}
 use Rattle.words.specs.Pairs.{values_from}
-use Rattle.words.specs.declared.Read.{Read}
-use Rattle.words.specs.declared.Read.TheVariants as read
-use Rattle.words.specs.declared.HexRead.{HexRead}
-use Rattle.words.specs.declared.HexRead.TheVariants as hex_read
-use Rattle.words.specs.declared.Values.{Values}
-use Rattle.words.specs.declared.Values.TheVariants as values
-use Rattle.commands.specs.declared.Spot.{Spot}
+use Rattle.words.specs.declared.HexError.{HexError}
+use Rattle.words.specs.declared.BadWord.{BadWord}
+use Rattle.commands.specs.declared.part.Part.{Part}
+use Rattle.commands.specs.declared.part.Part.TheVariants as part
+use Rattle.commands.specs.declared.part.End.{End}
+use Rattle.commands.specs.declared.part.End.TheVariants as end
+use Rattle.commands.specs.declared.part.Spot.{Spot}
 
--- ---- sorts of a part
+-- ---- what a part may be
 
 -- no part; any number; 0 or 1; a variable, below 256; room for pointers; a size; a budget; F; VAR; KIND; BITS
-abbrev pub nothing : ℕ
-nothing = 0
+abbrev pub nothing : Option Part
+nothing = None
 
-abbrev pub any : ℕ
-any = 1
+abbrev pub any : Option Part
+any = Some (part.UpTo (2 ^ 64 - 1))
 
-abbrev pub flag : ℕ
-flag = 2
+abbrev pub flag : Option Part
+flag = Some (part.UpTo 1)
 
-abbrev pub variable : ℕ
-variable = 3
+abbrev pub variable : Option Part
+variable = Some (part.UpTo 255)
 
-abbrev pub list_room : ℕ
-list_room = 4
+abbrev pub list_room : Option Part
+list_room = Some (part.UpTo 4096)
 
-abbrev pub size : ℕ
-size = 5
+abbrev pub size : Option Part
+size = Some (part.UpTo 32768)
 
-abbrev pub budget : ℕ
-budget = 6
+abbrev pub budget : Option Part
+budget = Some (part.UpTo 4294967295)
 
-abbrev pub frame : ℕ
-frame = 7
+abbrev pub frame : Option Part
+frame = Some part.Frame
 
-abbrev pub var : ℕ
-var = 8
+abbrev pub var : Option Part
+var = Some part.Var
 
-abbrev pub kind : ℕ
-kind = 9
+abbrev pub kind : Option Part
+kind = Some part.Kind
 
-abbrev pub bits : ℕ
-bits = 10
-
--- the largest number of each of the first seven
-unfoldable pub mosts : List ℕ
-mosts = 0 ∷ (2 ^ 64 - 1) ∷ 1 ∷ 255 ∷ 4096 ∷ 32768 ∷ 4294967295 ∷ []
+abbrev pub bits : Option Part
+bits = Some part.Bits
 
 -- ---- a word as a part
 
 -- "F below the depth"
-abbrev pub frame_read : (depth : ℕ) → List ℕ → Read
-frame_read d w = pick (eqb d 0) read.Bad (up_to (d - 1) w)
+abbrev pub frame_read : (depth : ℕ) → List ℕ → Option ℕ
+frame_read d w = pick (eqb d 0) None (up_to (d - 1) w)
 
-abbrev pub one_more : Read → Read
-one_more (read.Number n) = read.Number (n + 1)
-one_more read.Bad = read.Bad
+abbrev pub one_more : Option ℕ → Option ℕ
+one_more (Some n) = Some (n + 1)
+one_more None = None
 
 -- "VAR `-` for none", as a frame's record holds it: 0 for none, else the number and one
-abbrev pub var_read : List ℕ → Read
-var_read w = pick (same_bytes w (ascii "-")) (read.Number 0) (one_more (up_to (2 ^ 64 - 2) w))
+abbrev pub var_read : List ℕ → Option ℕ
+var_read w = pick (same_bytes w (ascii "-")) (Some 0) (one_more (up_to (2 ^ 64 - 2) w))
 
--- what a word says as a part of this sort; bits are those of the kind before them
-unfoldable pub part_read : (sort depth before : ℕ) → List ℕ → Read
-part_read s d b w =
-    pick (eqb s frame) (frame_read d w) (pick (eqb s var) (var_read w) (pick (eqb s kind) (kind_read w) (pick (eqb s bits) (bits_read b w) (up_to (get_or mosts s 0) w))))
+-- what a word says as such a part; bits are those of the kind before them
+abbrev pub part_read : Part → (depth before : ℕ) → List ℕ → Option ℕ
+part_read (part.UpTo most) d b w = up_to most w
+part_read part.Frame d b w = frame_read d w
+part_read part.Var d b w = var_read w
+part_read part.Kind d b w = kind_read w
+part_read part.Bits d b w = bits_read b w
 
 -- ---- one part after the other
 
 -- a number was read, and this is the next word
-abbrev pub good : (value next : ℕ) → Spot
-good v k = record { value = v; next = k; bad = 0 }
+abbrev pub good : (value next : ℕ) → Result Spot BadWord
+good v k = Ok (record { value = v; next = k })
 
 -- this word cannot be read
-abbrev pub bad : ℕ → Spot
-bad k = record { value = 0; next = k; bad = 1 }
+abbrev pub bad : {A : Type 0} → ℕ → Result A BadWord
+bad k = Err (record { 0 = k })
 
-abbrev pub after : Read → ℕ → Spot
-after (read.Number n) k = good n (k + 1)
-after read.Bad k = bad k
+abbrev pub after : Option ℕ → ℕ → Result Spot BadWord
+after (Some n) k = good n (k + 1)
+after None k = bad k
 
--- one part more; after a word that cannot be read, none
-unfoldable pub part_after : (sort depth : ℕ) → Spot → List (List ℕ) → Spot
-part_after sort depth s ws =
-    pick (eqb s.bad 0) (pick (eqb sort nothing) (good 0 s.next) (after (part_read sort depth s.value (get_or ws s.next [])) s.next)) s
+-- one part more, or none
+abbrev pub part_after : Option Part → (depth : ℕ) → Spot → List (List ℕ) → Result Spot BadWord
+part_after None depth s ws = good 0 s.next
+part_after (Some p) depth s ws = after (part_read p depth s.value (get_or ws s.next [])) s.next
 
 -- ---- the line's end
 
--- sorts of an end: HEX, and values
-abbrev pub hex : ℕ
-hex = 1
-
-abbrev pub some_values : ℕ
-some_values = 2
-
 -- "a word too many"
-unfoldable pub ended_at : List (List ℕ) → (k value : ℕ) → Spot
-ended_at ws k v = pick (leb (length ws) k) (good v k) (bad k)
+abbrev pub ended_at : List (List ℕ) → (k value : ℕ) → Result ℕ BadWord
+ended_at ws k v = pick (leb (length ws) k) (Ok v) (bad k)
 
-abbrev pub hex_end : HexRead → List (List ℕ) → ℕ → Spot
-hex_end (hex_read.Bytes n) ws k = ended_at ws (k + 1) n
-hex_end hex_read.Long ws k = bad k
-hex_end hex_read.Bad ws k = bad k
+abbrev pub hex_end : Result ℕ HexError → List (List ℕ) → ℕ → Result ℕ BadWord
+hex_end (Ok n) ws k = ended_at ws (k + 1) n
+hex_end (Err e) ws k = bad k
 
-abbrev pub values_end : Values → ℕ → Spot
-values_end (values.Count n) k = good n k
-values_end (values.Bad w) k = bad w
-
--- the end, where HEX has room for so many bytes and there is room for so many values
-unfoldable pub end_after : (sort hex_room value_room : ℕ) → Spot → List (List ℕ) → Spot
-end_after sort h v s ws =
-    pick (eqb s.bad 0)
-    (pick (eqb sort hex) (hex_end (hex_answer (get_or ws s.next []) h) ws s.next)
-    (pick (eqb sort some_values) (values_end (values_from v 0 s.next (drop s.next ws)).end s.next) (ended_at ws s.next 0)))
-    s
-
--- whether the line is read as far as its end, and that has this sort
-abbrev pub ends_as : (sort : ℕ) → ℕ → Spot → Bool
-ends_as sort this s = eqb s.bad 0 && eqb sort this
+-- the end from a word on, where HEX has room for so many bytes and there is room for so many values
+abbrev pub end_after : End → (hex_room value_room k : ℕ) → List (List ℕ) → Result ℕ BadWord
+end_after end.Nothing h v k ws = ended_at ws k 0
+end_after end.Hex h v k ws = hex_end (hex_answer (get_or ws k []) h) ws k
+end_after end.Values h v k ws = (values_from v 0 k (drop k ws)).end
 
 -- the buffers afterwards: HEX and values stand at their start, where the line has them
-unfoldable pub bytes_after : (sort : ℕ) → Spot → List (List ℕ) → List ℕ → List ℕ
-bytes_after sort s ws before = pick (ends_as sort hex s) (hex_buffer (get_or ws s.next []) before) before
+abbrev pub bytes_left : End → (k : ℕ) → List (List ℕ) → List ℕ → List ℕ
+bytes_left end.Hex k ws before = hex_buffer (get_or ws k []) before
+bytes_left _ k ws before = before
 
-unfoldable pub tags_after : (sort value_room : ℕ) → Spot → List (List ℕ) → List ℕ → List ℕ
-tags_after sort v s ws before = pick (ends_as sort some_values s) (sets before 0 (values_from v 0 s.next (drop s.next ws)).tags) before
+abbrev pub tags_left : End → (value_room k : ℕ) → List (List ℕ) → List ℕ → List ℕ
+tags_left end.Values v k ws before = sets before 0 (values_from v 0 k (drop k ws)).tags
+tags_left _ v k ws before = before
 
-unfoldable pub bits_after : (sort value_room : ℕ) → Spot → List (List ℕ) → List ℕ → List ℕ
-bits_after sort v s ws before = pick (ends_as sort some_values s) (sets before 0 (values_from v 0 s.next (drop s.next ws)).bits) before
+abbrev pub bits_left : End → (value_room k : ℕ) → List (List ℕ) → List ℕ → List ℕ
+bits_left end.Values v k ws before = sets before 0 (values_from v 0 k (drop k ws)).bits
+bits_left _ v k ws before = before

@@ -3,13 +3,17 @@ use Prim.Native.Nat.{ℕ, ◌≤◌}
 use native.Mathlib.Omega.{arith}
 use mathlib.Core.List.{List}
 use lib.ListN.{length, take, replicate, length-replicate}
-use lib.Dec.{ltb, eqb}
+use lib.Dec.{ltb}
 use Rattle.words.specs.Room.{size}
 use Rattle.words.proofs.Room.{roomy}
 use Rattle.answers.specs.Lines.{Pieces}
 use Rattle.answers.proofs.Room.{ok-size, image-size}
-use Rattle.commands.specs.Command as Command
+use Rattle.std.specs.Prelude.{Result, Ok, Err}
+use Rattle.words.specs.declared.BadWord.{BadWord}
 use Rattle.commands.specs.declared.Asked.{Asked}
+use Rattle.commands.specs.declared.Parts.{Parts}
+use Rattle.commands.specs.declared.command.Command.{Command}
+use Rattle.commands.specs.declared.command.Command.TheVariants as command
 use Rattle.by_hand.proofs.Room.{either, dump-size}
 use Rattle.image.specs.Image.{loaded}
 use Rattle.memory.specs.Tables.{State, fresh_of}
@@ -36,7 +40,7 @@ reading-fits : (s : List ℕ) (p : ℕ) (bytes : List ℕ) (t : State) → lengt
 reading-fits s p bytes t h =
     omega (arith, read-size (read_entered s p bytes t).answer (read_entered s p bytes t).bytes (omega (arith, read-inside bytes s p t)))
 
-module _ (a : Asked) (s : List ℕ) (t : State) where
+module _ (a : Parts) (s : List ℕ) (t : State) where
   read_fits : Fits (T.read_line_of a s t)
   unfolding T.read_line_of
   read_fits = reading-fits s a.first (T.bytes_for a.second) t (bytes_count a.second)
@@ -45,36 +49,42 @@ module _ (a : Asked) (s : List ℕ) (t : State) where
   unfolding T.rewrite_line_of
   rewrite-fits = omega (arith, rewritten_size (loaded s) (T.bytes_for a.first) (bytes_count a.first))
 
-  looked_fits : length t.memory.store ≤ 32768 → Fits (T.looked_of a s t)
-  unfolding T.looked_of
-  looked_fits h =
-      either Fits (eqb a.command Command.read) (λ e. read_fits)
-      (λ e. either Fits (eqb a.command Command.live) (λ f. omega (arith, live-size a.first t))
-      (λ f. either Fits (eqb a.command Command.rewrite) (λ g. rewrite-fits)
-      (λ g. dump-size (registers_of t) t.memory.store t.memory.frames t.memory.bounds t.memory.pointers t.variables h)))
+  looked_fits : (c : Command) → length t.memory.store ≤ 32768 → Fits (T.looked_of c a s t)
+  looked_fits command.Read h = read_fits
+  looked_fits command.Live h = omega (arith, live-size a.first t)
+  looked_fits command.Rewrite h = rewrite-fits
+  looked_fits _ h = dump-size (registers_of t) t.memory.store t.memory.frames t.memory.bounds t.memory.pointers t.variables h
 
 abbrev DoneFits : Done → Type 0
 DoneFits d = Fits d.line
 
-module _ (a : Asked) (t : State) where
-  ran-fits : (s ts bs : List ℕ) → DoneFits (T.ran_of s a ts bs t)
-  unfolding T.ran_of T.start_done T.step_done T.run_done
-  ran-fits s ts bs =
-      either DoneFits (eqb a.command Command.start) (λ e. few (start-size (begun_of s a.first a.count ts bs t).answer))
-      (λ e. either DoneFits (eqb a.command Command.step) (λ f. few (step-size (step_entered s t).answer)) (λ f. few (ran-size (run_entered s (budget_of a.first) t).answer)))
+module _ (a : Parts) (t : State) where
+  ran-fits : (c : Command) (s ts bs : List ℕ) → DoneFits (T.ran_of s c a ts bs t)
+  unfolding T.start_done T.step_done T.run_done
+  ran-fits command.Start s ts bs = few (start-size (begun_of s a.first a.count ts bs t).answer)
+  ran-fits command.Step s ts bs = few (step-size (step_entered s t).answer)
+  ran-fits _ s ts bs = few (ran-size (run_entered s (budget_of a.first) t).answer)
 
-  changed_fits : (bytes : List ℕ) → DoneFits (T.changed_of a bytes t)
-  unfolding T.changed_of T.fresh_done T.allocate_done T.write_done T.poke_done
-  changed_fits bytes =
-      either DoneFits (eqb a.command Command.fresh) (λ e. few (fresh-size (fresh_of t.memory.store t.memory.frames t.memory.bounds t.memory.pointers t.variables).answer))
-      (λ e. either DoneFits (eqb a.command Command.allocate) (λ f. few (given-size (host_allocated t a.first).answer))
-      (λ f. either DoneFits (eqb a.command Command.write) (λ g. few (outcome-size (host_written t a.first (take a.count bytes)).answer)) (λ g. few ok-size)))
+  changed_fits : (c : Command) (bytes : List ℕ) → DoneFits (T.changed_of c a bytes t)
+  unfolding T.fresh_done T.allocate_done T.write_done T.poke_done
+  changed_fits command.Fresh bytes = few (fresh-size (fresh_of t.memory.store t.memory.frames t.memory.bounds t.memory.pointers t.variables).answer)
+  changed_fits command.Allocate bytes = few (given-size (host_allocated t a.first).answer)
+  changed_fits (command.Poke w) bytes = few ok-size
+  changed_fits _ bytes = few (outcome-size (host_written t a.first (take a.count bytes)).answer)
 
-  machine-fits : (ts bs s bytes : List ℕ) → length t.memory.store ≤ 32768 → DoneFits (T.machine_of a ts bs s bytes t)
-  unfolding T.machine_of
-  machine-fits ts bs s bytes h =
-      either DoneFits (T.runs a.command) (λ e. ran-fits s ts bs)
-      (λ e. either DoneFits (T.looks a.command) (λ f. looked_fits a s t h) (λ f. changed_fits bytes))
+  machine-fits : (c : Command) (ts bs s bytes : List ℕ) → length t.memory.store ≤ 32768 → DoneFits (T.machine_by c a ts bs s bytes t)
+  machine-fits command.Start ts bs s bytes h = ran-fits command.Start s ts bs
+  machine-fits command.Step ts bs s bytes h = ran-fits command.Step s ts bs
+  machine-fits command.Run ts bs s bytes h = ran-fits command.Run s ts bs
+  machine-fits command.Read ts bs s bytes h = looked_fits a s t command.Read h
+  machine-fits command.Live ts bs s bytes h = looked_fits a s t command.Live h
+  machine-fits command.Rewrite ts bs s bytes h = looked_fits a s t command.Rewrite h
+  machine-fits command.Dump ts bs s bytes h = looked_fits a s t command.Dump h
+  machine-fits command.Image ts bs s bytes h = changed_fits command.Image bytes
+  machine-fits command.Fresh ts bs s bytes h = changed_fits command.Fresh bytes
+  machine-fits command.Allocate ts bs s bytes h = changed_fits command.Allocate bytes
+  machine-fits command.Write ts bs s bytes h = changed_fits command.Write bytes
+  machine-fits (command.Poke w) ts bs s bytes h = changed_fits (command.Poke w) bytes
 
 -- ---- a line
 
@@ -82,14 +92,13 @@ abbrev AllFits : Performed → Type 0
 AllFits p = Fits p.done.line
 
 module _ (n : ℕ) (image : List ℕ) (t : State) (h : length t.memory.store ≤ 32768) where
-  performed-fits : (a : Asked) (ts bs bytes : List ℕ) → AllFits (T.performed_of n a ts bs image bytes t)
-  unfolding T.performed_of
-  performed-fits a ts bs bytes =
-      either AllFits (eqb a.command Command.image) (λ e. few (image-size (T.image_count a.count image bytes))) (λ e. machine-fits a t ts bs (take n image) bytes h)
+  performed-fits : (c : Command) (a : Parts) (ts bs bytes : List ℕ) → AllFits (T.performed_by n c a ts bs image bytes t)
+  performed-fits command.Image a ts bs bytes = few (image-size (T.image_count a.count image bytes))
+  performed-fits c a ts bs bytes = machine-fits a t c ts bs (take n image) bytes h
 
-  read_line_fits : (a : Asked) (ts bs bytes : List ℕ) → AllFits (T.read_of n a ts bs image bytes t)
-  unfolding T.read_of
-  read_line_fits a ts bs bytes = either AllFits (eqb a.bad 0) (λ e. performed-fits a ts bs bytes) (λ e. few (unread_size a.word))
+  read_line_fits : (r : Result Asked BadWord) (ts bs bytes : List ℕ) → AllFits (T.read_of n r ts bs image bytes t)
+  read_line_fits (Ok a) ts bs bytes = performed-fits a.command a.parts ts bs bytes
+  read_line_fits (Err k) ts bs bytes = few (unread_size k.0)
 
   answered-fits : (l bytes : List ℕ) → AllFits (T.answered_of n l image bytes t)
   unfolding T.answered_of

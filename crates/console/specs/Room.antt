@@ -1,7 +1,6 @@
 -- The program lends its console 1,114,488 bytes for an answer. No answer is longer, not even a dump of full tables.
-use Rattle.std.specs.Prelude.{ℕ, ◌≤◌, ◌≡◌, List, length}
+use Rattle.std.specs.Prelude.{ℕ, ◌≤◌, ◌≡◌, Some, List, length}
 use Rattle.words.specs.Room.{size}
-use Rattle.words.specs.declared.Written.TheVariants.{To}
 use Rattle.memory.specs.Tables.{State}
 use Rattle.console.specs.Turns.{answered_of, keeping}
 
@@ -9,4 +8,4 @@ use Rattle.console.specs.Turns.{answered_of, keeping}
 abbrev pub AnswerHasRoom : Type 0
 AnswerHasRoom =
     (n : ℕ) (l image bytes : List ℕ) (t : State) (out : List ℕ) → length t.memory.store ≤ 32768 → 1114488 ≤ length out
-    → (keeping out (answered_of n l image bytes t)).turn.text ≡ To (size (answered_of n l image bytes t).done.line)
+    → (keeping out (answered_of n l image bytes t)).turn.text ≡ Some (size (answered_of n l image bytes t).done.line)

@@ -1,21 +1,26 @@
 -- What each command of the console does: the machine, the image and the bytes afterwards, and the line that it is answered by.
-use Rattle.std.specs.Prelude.{ℕ, min, Bool, ◌&&◌, ◌||◌, List, length, take, replicate, ltb, leb, eqb}
+use Rattle.std.specs.Prelude.{ℕ, min, Option, Result, Ok, Err, List, length, take, replicate, ltb, ⊤}
 use Rattle.std.proofs.lemmas.List.Edits.{sets}
+use Rattle.value.specs.declared.refusal.Refusal.{Refusal}
 use Rattle.value.specs.Answer.{pick}
 use Rattle.words.specs.Words.{words}
-use Rattle.words.specs.declared.Written.{Written}
+use Rattle.words.specs.declared.BadWord.{BadWord}
 use Rattle.answers.specs.Lines.{Pieces, image_line, ok_line}
-use Rattle.commands.specs.Command as Command
-use Rattle.commands.specs.Commands.{name_read, row_asked, row_bytes, row_tags, row_bits}
+use Rattle.commands.specs.Commands as Commands
 use Rattle.commands.specs.declared.Asked.{Asked}
+use Rattle.commands.specs.declared.Parts.{Parts}
+use Rattle.commands.specs.declared.command.Command.{Command}
+use Rattle.commands.specs.declared.command.Command.TheVariants as command
+use Rattle.commands.specs.declared.command.Poke.{Poke}
 use Rattle.by_hand.specs.Changes.{Poked, poked_of}
 use Rattle.by_hand.specs.State.{dump_line}
 use Rattle.image.specs.Image.{loaded}
 use Rattle.image_writer.specs.Answer.{outcome, buffer}
 use Rattle.memory.specs.declared.Registers.{Registers}
-use Rattle.memory.specs.declared.Outcome.{Outcome}
 use Rattle.memory.specs.Tables.{State, state, tables, Both, All, Out, fresh_of}
 use Rattle.run.specs.Run.{Running}
+use Rattle.run.specs.declared.Ran.{Ran}
+use Rattle.eval.specs.declared.entry.EntryError.{EntryError}
 use Rattle.eval.specs.Entry.{Entering, Reading, run_entered, step_entered, read_entered}
 use Rattle.eval.specs.Host.{host_allocated, host_written}
 use Rattle.eval.specs.After.{after_moved, after_entered, after_run, after_given}
@@ -48,7 +53,7 @@ abbrev pub from_entering : State → (tell : Pieces) → Entering → Done
 from_entering t ps r = done (after_entered r.answer (registers_of t)) r.store r.frames r.bounds r.pointers r.variables ps
 
 -- "`start FUNCTION KIND BITS [KIND BITS]...` → `ok`"
-unfoldable pub start_done : (image : List ℕ) → Asked → (tags bits : List ℕ) → State → Done
+unfoldable pub start_done : (image : List ℕ) → Parts → (tags bits : List ℕ) → State → Done
 start_done s a ts bs t = let r = begun_of s a.first a.count ts bs t in from_entering t (start_line r.answer) r
 
 -- "`step` → `stepped`, `returned KIND BITS` or `returned none`"
@@ -56,14 +61,16 @@ unfoldable pub step_done : (image : List ℕ) → State → Done
 step_done s t = let r = step_entered s t in from_entering t (step_line r.answer) r
 
 -- "`run BUDGET` → as `lir run`"
-abbrev pub from_running : State → Running → Done
+abbrev pub from_running : State → Running (Result Ran EntryError) → Done
 from_running t r = done (after_run r.answer (registers_of t)) r.store r.frames r.bounds r.pointers r.variables (ran_line r.answer)
 
-unfoldable pub run_done : (image : List ℕ) → Asked → State → Done
+unfoldable pub run_done : (image : List ℕ) → Parts → State → Done
 run_done s a t = from_running t (run_entered s (budget_of a.first) t)
 
-unfoldable pub ran_of : (image : List ℕ) → Asked → (tags bits : List ℕ) → State → Done
-ran_of s a ts bs t = pick (eqb a.command Command.start) (start_done s a ts bs t) (pick (eqb a.command Command.step) (step_done s t) (run_done s a t))
+abbrev pub ran_of : (image : List ℕ) → Command → Parts → (tags bits : List ℕ) → State → Done
+ran_of s command.Start a ts bs t = start_done s a ts bs t
+ran_of s command.Step a ts bs t = step_done s t
+ran_of s _ a ts bs t = run_done s a t
 
 -- ---- the commands that change the memory by the host's hand
 
@@ -78,26 +85,28 @@ fresh_done t = from_all t (fresh_of t.memory.store t.memory.frames t.memory.boun
 abbrev pub from_out : State → Out → Done
 from_out t r = done (after_given r.answer (registers_of t)) r.store r.frames r.bounds r.pointers t.variables (given_line r.answer)
 
-unfoldable pub allocate_done : Asked → State → Done
+unfoldable pub allocate_done : Parts → State → Done
 allocate_done a t = from_out t (host_allocated t a.first)
 
 -- "`write P HEX` → `ok`"
-abbrev pub from_both : State → Both Outcome → Done
+abbrev pub from_both : State → Both (Result ⊤ Refusal) → Done
 from_both t r = done (registers_of t) r.table t.memory.frames t.memory.bounds t.memory.pointers t.variables (outcome_line r.answer)
 
-unfoldable pub write_done : Asked → (bytes : List ℕ) → State → Done
+unfoldable pub write_done : Parts → (bytes : List ℕ) → State → Done
 write_done a bs t = from_both t (host_written t a.first (take a.count bs))
 
 -- "`poke WHAT ..` → `ok`"
 abbrev pub from_poked : State → Poked → Done
 from_poked t r = done r.registers t.memory.store r.frames t.memory.bounds r.pointers r.variables ok_line
 
-unfoldable pub poke_done : Asked → State → Done
-poke_done a t = from_poked t (poked_of (registers_of t) a t.memory.frames t.memory.pointers t.variables)
+unfoldable pub poke_done : Poke → Parts → State → Done
+poke_done w a t = from_poked t (poked_of (registers_of t) w a t.memory.frames t.memory.pointers t.variables)
 
-unfoldable pub changed_of : Asked → (bytes : List ℕ) → State → Done
-changed_of a bs t =
-    pick (eqb a.command Command.fresh) (fresh_done t) (pick (eqb a.command Command.allocate) (allocate_done a t) (pick (eqb a.command Command.write) (write_done a bs t) (poke_done a t)))
+abbrev pub changed_of : Command → Parts → (bytes : List ℕ) → State → Done
+changed_of command.Fresh a bs t = fresh_done t
+changed_of command.Allocate a bs t = allocate_done a t
+changed_of (command.Poke w) a bs t = poke_done w a t
+changed_of _ a bs t = write_done a bs t
 
 -- ---- the commands that look at the state and leave it as it is
 
@@ -109,39 +118,41 @@ bytes_for room = take room (replicate 32768 0)
 abbrev pub reading_line : Reading → Pieces
 reading_line r = read_line r.answer r.bytes
 
-unfoldable pub read_line_of : Asked → (image : List ℕ) → State → Pieces
+unfoldable pub read_line_of : Parts → (image : List ℕ) → State → Pieces
 read_line_of a s t = reading_line (read_entered s a.first (bytes_for a.second) t)
 
 -- "`rewrite ROOM` (at most 32,768) → the image written again by the image writer: `bytes HEX`"
 abbrev pub rewritten_in : (image room : List ℕ) → Pieces
 rewritten_in s room = rewritten_line (outcome (loaded s) room) (buffer (loaded s) room)
 
-unfoldable pub rewrite_line_of : Asked → (image : List ℕ) → Pieces
+unfoldable pub rewrite_line_of : Parts → (image : List ℕ) → Pieces
 rewrite_line_of a s = rewritten_in s (bytes_for a.first)
 
 -- "`dump` → `state ..`"
 abbrev pub dump_line_of : State → Pieces
 dump_line_of t = dump_line (registers_of t) t.memory.store t.memory.frames t.memory.bounds t.memory.pointers t.variables
 
-unfoldable pub looked_of : Asked → (image : List ℕ) → State → Pieces
-looked_of a s t =
-    pick (eqb a.command Command.read) (read_line_of a s t)
-    (pick (eqb a.command Command.live) (live_line_of a.first t)
-    (pick (eqb a.command Command.rewrite) (rewrite_line_of a s) (dump_line_of t)))
+abbrev pub looked_of : Command → Parts → (image : List ℕ) → State → Pieces
+looked_of command.Read a s t = read_line_of a s t
+looked_of command.Live a s t = live_line_of a.first t
+looked_of command.Rewrite a s t = rewrite_line_of a s
+looked_of _ a s t = dump_line_of t
 
 -- ---- one command
 
--- `start`, `step` and `run`
-unfoldable pub runs : ℕ → Bool
-runs c = leb Command.start c && leb c Command.run
+-- what a command does on the machine: it runs the image, looks at the state, or changes the memory
+abbrev pub machine_by : Command → Parts → (tags bits image bytes : List ℕ) → State → Done
+machine_by command.Start a ts bs s bytes t = ran_of s command.Start a ts bs t
+machine_by command.Step a ts bs s bytes t = ran_of s command.Step a ts bs t
+machine_by command.Run a ts bs s bytes t = ran_of s command.Run a ts bs t
+machine_by command.Read a ts bs s bytes t = still t (looked_of command.Read a s t)
+machine_by command.Live a ts bs s bytes t = still t (looked_of command.Live a s t)
+machine_by command.Rewrite a ts bs s bytes t = still t (looked_of command.Rewrite a s t)
+machine_by command.Dump a ts bs s bytes t = still t (looked_of command.Dump a s t)
+machine_by c a ts bs s bytes t = changed_of c a bytes t
 
--- `read`, and `live`, `rewrite` and `dump`
-unfoldable pub looks : ℕ → Bool
-looks c = eqb c Command.read || (leb Command.live c && leb c Command.dump)
-
--- what a command does on the machine; those of other numbers change the memory
-unfoldable pub machine_of : Asked → (tags bits image bytes : List ℕ) → State → Done
-machine_of a ts bs s bytes t = pick (runs a.command) (ran_of s a ts bs t) (pick (looks a.command) (still t (looked_of a s t)) (changed_of a bytes t))
+abbrev pub machine_of : Asked → (tags bits image bytes : List ℕ) → State → Done
+machine_of a ts bs s bytes t = machine_by a.command a.parts ts bs s bytes t
 
 -- the machine and the line, the image's length and bytes, and the bytes that HEX was read into
 pub record Performed : Type 0 where
@@ -161,30 +172,32 @@ abbrev pub image_taken : ℕ → (image bytes : List ℕ) → State → Performe
 image_taken n image bs t = performed (still t (image_line n)) n (sets image 0 (take n bs)) bs
 
 -- the image is the first `n` bytes of its buffer
-unfoldable pub performed_of : (n : ℕ) → Asked → (tags bits image bytes : List ℕ) → State → Performed
-performed_of n a ts bs image bytes t =
-    pick (eqb a.command Command.image) (image_taken (image_count a.count image bytes) image bytes t)
-    (performed (machine_of a ts bs (take n image) bytes t) n image bytes)
+abbrev pub performed_by : (n : ℕ) → Command → Parts → (tags bits image bytes : List ℕ) → State → Performed
+performed_by n command.Image a ts bs image bytes t = image_taken (image_count a.count image bytes) image bytes t
+performed_by n c a ts bs image bytes t = performed (machine_by c a ts bs (take n image) bytes t) n image bytes
+
+abbrev pub performed_of : (n : ℕ) → Asked → (tags bits image bytes : List ℕ) → State → Performed
+performed_of n a ts bs image bytes t = performed_by n a.command a.parts ts bs image bytes t
 
 -- ---- one line
 
 -- what the line asks
-abbrev pub line_asked : (depth hex_room : ℕ) → (line : List ℕ) → Asked
-line_asked d h l = row_asked (name_read (words l)).value d h value_room (name_read (words l)) (words l)
+abbrev pub line_asked : (depth hex_room : ℕ) → (line : List ℕ) → Result Asked BadWord
+line_asked d h l = Commands.line_asked d h value_room (words l)
 
 abbrev pub line_bytes : (depth : ℕ) → (line before : List ℕ) → List ℕ
-line_bytes d l before = row_bytes (name_read (words l)).value d (name_read (words l)) (words l) before
+line_bytes d l before = Commands.line_bytes d (words l) before
 
 abbrev pub line_tags : (depth : ℕ) → (line : List ℕ) → List ℕ
-line_tags d l = row_tags (name_read (words l)).value d value_room (name_read (words l)) (words l) zeros
+line_tags d l = Commands.line_tags d value_room (words l) zeros
 
 abbrev pub line_bits : (depth : ℕ) → (line : List ℕ) → List ℕ
-line_bits d l = row_bits (name_read (words l)).value d value_room (name_read (words l)) (words l) zeros
+line_bits d l = Commands.line_bits d value_room (words l) zeros
 
 -- a line that was read is done, on the machine and on what it left in the bytes
-unfoldable pub read_of : (n : ℕ) → Asked → (tags bits image bytes : List ℕ) → State → Performed
-read_of n a ts bs image bytes t =
-    pick (eqb a.bad 0) (performed_of n a ts bs image bytes t) (performed (still t (unread_line a.word)) n image bytes)
+abbrev pub read_of : (n : ℕ) → Result Asked BadWord → (tags bits image bytes : List ℕ) → State → Performed
+read_of n (Ok a) ts bs image bytes t = performed_of n a ts bs image bytes t
+read_of n (Err k) ts bs image bytes t = performed (still t (unread_line k.0)) n image bytes
 
 unfoldable pub answered_of : (n : ℕ) → (line image bytes : List ℕ) → State → Performed
 answered_of n l image bytes t =
@@ -207,7 +220,7 @@ pub record Left : Type 0 where
 abbrev pub left : Told → (out store frames bounds pointers variables : List ℕ) → Left
 left r o s f b p v = record { told = r; out = o; store = s; frames = f; bounds = b; pointers = p; variables = v }
 
-abbrev pub told : Registers → Written → Told
+abbrev pub told : Registers → Option ℕ → Told
 told m w = record { m = m; text = w }
 
 -- the line is written from the start of the buffer on

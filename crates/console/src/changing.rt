@@ -6,15 +6,16 @@ ghost use Rattle.console.specs.Turns.{left, leaving, fresh_done, allocate_done, 
 use crate::{Told, tell};
 use answers::line::write_ok;
 use by_hand::poke::poke;
-use commands::{Asked, command};
+use commands::command::{Command, Poke};
+use commands::{Asked, Parts};
 use eval::after::{after_given, after_moved};
 use eval::host::{host_allocate, host_write};
 use memory::{Registers, fresh};
 use telling::answer::{write_given, write_moved, write_outcome};
 use telling::bound::within;
-use words::Written;
 
 // `fresh`
+#[tactic(auto, unfolding(crate::specs::Turns::fresh_done))]
 fn perform_fresh(
     m: Registers,
     out: &mut [u8],
@@ -31,9 +32,10 @@ fn perform_fresh(
 }
 
 // `allocate SIZE`
+#[tactic(auto, unfolding(crate::specs::Turns::allocate_done))]
 fn perform_allocate(
     m: Registers,
-    asked: Asked,
+    parts: Parts,
     out: &mut [u8],
     store: &mut [u8],
     frames: &mut [u64],
@@ -41,9 +43,9 @@ fn perform_allocate(
     pointers: &mut [u64],
     vars: &[u64],
 ) -> Told
-    ensures { left result out.new store.new frames.new bounds.new pointers.new vars.now ≡ leaving out.old (allocate_done asked (state (tables m store.old frames.old bounds.old pointers.old) vars.now)) }
+    ensures { left result out.new store.new frames.new bounds.new pointers.new vars.now ≡ leaving out.old (allocate_done parts (state (tables m store.old frames.old bounds.old pointers.old) vars.now)) }
 {
-    let size = asked.first as usize;
+    let size = parts.first as usize;
     let g = host_allocate(m, size, store, frames, bounds, pointers, vars);
     tell(after_given(g, m), write_given(out, g))
 }
@@ -51,7 +53,7 @@ fn perform_allocate(
 // `write P HEX`
 fn perform_write(
     m: Registers,
-    asked: Asked,
+    parts: Parts,
     bytes: &[u8],
     out: &mut [u8],
     store: &mut [u8],
@@ -60,18 +62,20 @@ fn perform_write(
     pointers: &[u64],
     vars: &[u64],
 ) -> Told
-    ensures { left result out.new store.new frames.now bounds.now pointers.now vars.now ≡ leaving out.old (write_done asked bytes.now (state (tables m store.old frames.now bounds.now pointers.now) vars.now)) }
+    ensures { left result out.new store.new frames.now bounds.now pointers.now vars.now ≡ leaving out.old (write_done parts bytes.now (state (tables m store.old frames.now bounds.now pointers.now) vars.now)) }
 {
-    let size = within(asked.count as usize, bytes);
-    let p = asked.first as usize;
+    let size = within(parts.count as usize, bytes);
+    let p = parts.first as usize;
     let o = host_write(m, p, &bytes[..size], store, frames, bounds, pointers, vars);
     tell(m, write_outcome(out, o))
 }
 
 // `poke WHAT ..`
+#[tactic(auto, unfolding(crate::specs::Turns::poke_done))]
 fn perform_poke(
     m: Registers,
-    asked: Asked,
+    what: Poke,
+    parts: Parts,
     out: &mut [u8],
     store: &[u8],
     frames: &mut [u64],
@@ -79,10 +83,10 @@ fn perform_poke(
     pointers: &mut [u64],
     vars: &mut [u64],
 ) -> Told
-    ensures { left result out.new store.now frames.new bounds.now pointers.new vars.new ≡ leaving out.old (poke_done asked (state (tables m store.now frames.old bounds.now pointers.old) vars.old)) }
+    ensures { left result out.new store.now frames.new bounds.now pointers.new vars.new ≡ leaving out.old (poke_done what parts (state (tables m store.now frames.old bounds.now pointers.old) vars.old)) }
 {
-    let after = poke(m, asked, frames, pointers, vars);
-    tell(after, write_ok(out, Written::To(0)))
+    let after = poke(m, what, parts, frames, pointers, vars);
+    tell(after, write_ok(out, 0))
 }
 
 // The commands that change the memory by the host's hand.
@@ -97,15 +101,17 @@ pub fn change(
     pointers: &mut [u64],
     vars: &mut [u64],
 ) -> Told
-    ensures { left result out.new store.new frames.new bounds.new pointers.new vars.new ≡ leaving out.old (changed_of asked bytes.now (state (tables m store.old frames.old bounds.old pointers.old) vars.old)) }
+    ensures { left result out.new store.new frames.new bounds.new pointers.new vars.new ≡ leaving out.old (changed_of asked.command asked.parts bytes.now (state (tables m store.old frames.old bounds.old pointers.old) vars.old)) }
 {
-    let what = asked.command;
-    match what {
-        command::FRESH => perform_fresh(m, out, store, frames, bounds, pointers, vars),
-        command::ALLOCATE => perform_allocate(m, asked, out, store, frames, bounds, pointers, vars),
-        command::WRITE => perform_write(
-            m, asked, bytes, out, store, frames, bounds, pointers, vars,
+    let parts = asked.parts;
+    match asked.command {
+        Command::Fresh => perform_fresh(m, out, store, frames, bounds, pointers, vars),
+        Command::Allocate => {
+            perform_allocate(m, parts, out, store, frames, bounds, pointers, vars)
+        }
+        Command::Poke(what) => perform_poke(
+            m, what, parts, out, store, frames, bounds, pointers, vars,
         ),
-        _ => perform_poke(m, asked, out, store, frames, bounds, pointers, vars),
+        _ => perform_write(m, parts, bytes, out, store, frames, bounds, pointers, vars),
     }
 }

@@ -10,24 +10,23 @@ ghost use Rattle.std.specs.Prelude.{◌≡◌};
 ghost use Rattle.console.specs.Turns.{told};
 
 use memory::Registers;
-use words::Written;
 
-// What a command of the machine leaves: its registers, and where the answer ends.
+// What a command of the machine leaves: its registers, and where the answer ends, if it has room.
 #[derive(Clone, Copy)]
 pub struct Told {
     pub m: Registers,
-    pub text: Written,
+    pub text: Option<usize>,
 }
 
-// What a line leaves: the machine's registers, how long the image is, and where the answer ends.
+// What a line leaves: the machine's registers, how long the image is, and where the answer ends, if it has room.
 #[derive(Clone, Copy)]
 pub struct Turn {
     pub m: Registers,
     pub image: usize,
-    pub text: Written,
+    pub text: Option<usize>,
 }
 
-fn tell(m: Registers, text: Written) -> Told
+fn tell(m: Registers, text: Option<usize>) -> Told
     ensures { result ≡ told m text }
 {
     Told { m, text }

@@ -7,14 +7,14 @@ ghost use Rattle.telling.specs.Told.{line};
 ghost use Rattle.console.specs.Turns.{reading_line, read_line_of, rewritten_in, rewrite_line_of, looked_of};
 
 use by_hand::dump::write_dump;
-use commands::{Asked, command};
+use commands::command::Command;
+use commands::{Asked, Parts};
 use eval::entry::host_read;
 use image_writer::writer::write_image;
 use memory::Registers;
 use telling::answer::{write_readout, write_rewritten};
 use telling::bound::within;
 use telling::live::write_live;
-use words::Written;
 
 // As many bytes as the buffer holds, read through a pointer.
 fn read_into(
@@ -28,7 +28,7 @@ fn read_into(
     bounds: &[u64],
     pointers: &[u64],
     vars: &[u64],
-) -> Written
+) -> Option<usize>
     ensures { text result out.new ≡ line (reading_line (read_entered image.now p buffer.old (state (tables m store.now frames.now bounds.now pointers.now) vars.now))) out.old }
 {
     let r = host_read(image, m, p, buffer, store, frames, bounds, pointers, vars);
@@ -38,7 +38,7 @@ fn read_into(
 // `read P SIZE`
 fn look_read(
     m: Registers,
-    asked: Asked,
+    parts: Parts,
     image: &[u8],
     out: &mut [u8],
     store: &[u8],
@@ -46,12 +46,12 @@ fn look_read(
     bounds: &[u64],
     pointers: &[u64],
     vars: &[u64],
-) -> Written
-    ensures { text result out.new ≡ line (read_line_of asked image.now (state (tables m store.now frames.now bounds.now pointers.now) vars.now)) out.old }
+) -> Option<usize>
+    ensures { text result out.new ≡ line (read_line_of parts image.now (state (tables m store.now frames.now bounds.now pointers.now) vars.now)) out.old }
 {
     let mut bytes = [0u8; 32768];
-    let size = within(asked.second as usize, &bytes);
-    let p = asked.first as usize;
+    let size = within(parts.second as usize, &bytes);
+    let p = parts.first as usize;
     read_into(
         &mut bytes[..size],
         p,
@@ -67,7 +67,7 @@ fn look_read(
 }
 
 // The image, written again into a buffer.
-fn rewrite_into(buffer: &mut [u8], image: &[u8], out: &mut [u8]) -> Written
+fn rewrite_into(buffer: &mut [u8], image: &[u8], out: &mut [u8]) -> Option<usize>
     ensures { text result out.new ≡ line (rewritten_in image.now buffer.old) out.old }
 {
     let o = write_image(image, buffer);
@@ -75,11 +75,11 @@ fn rewrite_into(buffer: &mut [u8], image: &[u8], out: &mut [u8]) -> Written
 }
 
 // `rewrite ROOM`
-fn look_rewrite(asked: Asked, image: &[u8], out: &mut [u8]) -> Written
-    ensures { text result out.new ≡ line (rewrite_line_of asked image.now) out.old }
+fn look_rewrite(parts: Parts, image: &[u8], out: &mut [u8]) -> Option<usize>
+    ensures { text result out.new ≡ line (rewrite_line_of parts image.now) out.old }
 {
     let mut bytes = [0u8; 32768];
-    let room = within(asked.first as usize, &bytes);
+    let room = within(parts.first as usize, &bytes);
     rewrite_into(&mut bytes[..room], image, out)
 }
 
@@ -94,23 +94,14 @@ pub fn look(
     bounds: &[u64],
     pointers: &[u64],
     vars: &[u64],
-) -> Written
-    ensures { text result out.new ≡ line (looked_of asked image.now (state (tables m store.now frames.now bounds.now pointers.now) vars.now)) out.old }
+) -> Option<usize>
+    ensures { text result out.new ≡ line (looked_of asked.command asked.parts image.now (state (tables m store.now frames.now bounds.now pointers.now) vars.now)) out.old }
 {
-    let what = asked.command;
-    match what {
-        command::READ => look_read(m, asked, image, out, store, frames, bounds, pointers, vars),
-        command::LIVE => write_live(out, asked.first, m, store, frames, bounds, pointers, vars),
-        command::REWRITE => look_rewrite(asked, image, out),
-        _ => write_dump(
-            out,
-            Written::To(0),
-            m,
-            store,
-            frames,
-            bounds,
-            pointers,
-            vars,
-        ),
+    let parts = asked.parts;
+    match asked.command {
+        Command::Read => look_read(m, parts, image, out, store, frames, bounds, pointers, vars),
+        Command::Live => write_live(out, parts.first, m, store, frames, bounds, pointers, vars),
+        Command::Rewrite => look_rewrite(parts, image, out),
+        _ => write_dump(out, 0, m, store, frames, bounds, pointers, vars),
     }
 }

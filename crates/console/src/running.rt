@@ -4,7 +4,8 @@ ghost use Rattle.memory.specs.Tables.{tables, state};
 ghost use Rattle.console.specs.Turns.{left, leaving, start_done, step_done, run_done, ran_of};
 
 use crate::{Told, tell};
-use commands::{Asked, command};
+use commands::command::Command;
+use commands::{Asked, Parts};
 use eval::after::{after_entered, after_run};
 use eval::entry::{run, step};
 use memory::Registers;
@@ -12,9 +13,10 @@ use telling::answer::{write_ran, write_start, write_step};
 use telling::begin::{begin, budget_of};
 
 // `start FUNCTION KIND BITS [KIND BITS]...`
+#[tactic(auto, unfolding(crate::specs::Turns::start_done))]
 fn perform_start(
     m: Registers,
-    asked: Asked,
+    parts: Parts,
     tags: &[u64],
     bits: &[u64],
     image: &[u8],
@@ -25,12 +27,12 @@ fn perform_start(
     pointers: &mut [u64],
     vars: &mut [u64],
 ) -> Told
-    ensures { left result out.new store.new frames.new bounds.new pointers.new vars.new ≡ leaving out.old (start_done image.now asked tags.now bits.now (state (tables m store.old frames.old bounds.old pointers.old) vars.old)) }
+    ensures { left result out.new store.new frames.new bounds.new pointers.new vars.new ≡ leaving out.old (start_done image.now parts tags.now bits.now (state (tables m store.old frames.old bounds.old pointers.old) vars.old)) }
 {
     let e = begin(
         m,
-        asked.first,
-        asked.count,
+        parts.first,
+        parts.count,
         tags,
         bits,
         image,
@@ -44,6 +46,7 @@ fn perform_start(
 }
 
 // `step`
+#[tactic(auto, unfolding(crate::specs::Turns::step_done))]
 fn perform_step(
     m: Registers,
     image: &[u8],
@@ -61,9 +64,10 @@ fn perform_step(
 }
 
 // `run BUDGET`
+#[tactic(auto, unfolding(crate::specs::Turns::run_done))]
 fn perform_run(
     m: Registers,
-    asked: Asked,
+    parts: Parts,
     image: &[u8],
     out: &mut [u8],
     store: &mut [u8],
@@ -72,11 +76,11 @@ fn perform_run(
     pointers: &mut [u64],
     vars: &mut [u64],
 ) -> Told
-    ensures { left result out.new store.new frames.new bounds.new pointers.new vars.new ≡ leaving out.old (run_done image.now asked (state (tables m store.old frames.old bounds.old pointers.old) vars.old)) }
+    ensures { left result out.new store.new frames.new bounds.new pointers.new vars.new ≡ leaving out.old (run_done image.now parts (state (tables m store.old frames.old bounds.old pointers.old) vars.old)) }
 {
     let r = run(
         image,
-        budget_of(asked.first),
+        budget_of(parts.first),
         m,
         store,
         frames,
@@ -101,14 +105,14 @@ pub fn perform_running(
     pointers: &mut [u64],
     vars: &mut [u64],
 ) -> Told
-    ensures { left result out.new store.new frames.new bounds.new pointers.new vars.new ≡ leaving out.old (ran_of image.now asked tags.now bits.now (state (tables m store.old frames.old bounds.old pointers.old) vars.old)) }
+    ensures { left result out.new store.new frames.new bounds.new pointers.new vars.new ≡ leaving out.old (ran_of image.now asked.command asked.parts tags.now bits.now (state (tables m store.old frames.old bounds.old pointers.old) vars.old)) }
 {
-    let what = asked.command;
-    match what {
-        command::START => perform_start(
-            m, asked, tags, bits, image, out, store, frames, bounds, pointers, vars,
+    let parts = asked.parts;
+    match asked.command {
+        Command::Start => perform_start(
+            m, parts, tags, bits, image, out, store, frames, bounds, pointers, vars,
         ),
-        command::STEP => perform_step(m, image, out, store, frames, bounds, pointers, vars),
-        _ => perform_run(m, asked, image, out, store, frames, bounds, pointers, vars),
+        Command::Step => perform_step(m, image, out, store, frames, bounds, pointers, vars),
+        _ => perform_run(m, parts, image, out, store, frames, bounds, pointers, vars),
     }
 }

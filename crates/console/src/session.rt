@@ -10,13 +10,13 @@ use crate::looking::look;
 use crate::running::perform_running;
 use crate::{Told, Turn, tell};
 use answers::line::write_image_taken;
-use commands::command::read_line;
-use commands::{Asked, command};
+use commands::Asked;
+use commands::command::{Command, read_line};
 use memory::Registers;
 use telling::answer::write_unread;
 use telling::bound::within;
 use telling::{LONGEST, VALUES};
-use words::Written;
+use words::BadWord;
 use words::bound::least;
 use words::text::write_bytes;
 
@@ -35,7 +35,7 @@ fn take_image(count: u64, bytes: &[u8], image: &mut [u8]) -> usize
 {
     let room = least(count as usize, image.len());
     let n = within(room, bytes);
-    write_bytes(image, Written::To(0), &bytes[..n]);
+    write_bytes(image, 0, &bytes[..n]);
     n
 }
 
@@ -56,12 +56,11 @@ fn perform_on_machine(
 ) -> Told
     ensures { left result out.new store.new frames.new bounds.new pointers.new vars.new ≡ leaving out.old (machine_of asked tags.now bits.now image.now bytes.now (state (tables m store.old frames.old bounds.old pointers.old) vars.old)) }
 {
-    let what = asked.command;
-    match what {
-        command::START..=command::RUN => perform_running(
+    match asked.command {
+        Command::Start | Command::Step | Command::Run => perform_running(
             m, asked, tags, bits, image, out, store, frames, bounds, pointers, vars,
         ),
-        command::READ | command::LIVE..=command::DUMP => {
+        Command::Read | Command::Live | Command::Rewrite | Command::Dump => {
             let text = look(m, asked, image, out, store, frames, bounds, pointers, vars);
             tell(m, text)
         }
@@ -87,9 +86,9 @@ fn perform(
 ) -> Turn
     ensures { kept result out.new store.new frames.new bounds.new pointers.new vars.new image.new bytes.now ≡ keeping out.old (performed_of length asked tags.now bits.now image.old bytes.now (state (tables m store.old frames.old bounds.old pointers.old) vars.old)) }
 {
-    if asked.command == command::IMAGE {
-        let taken = take_image(asked.count, bytes, image);
-        let text = write_image_taken(out, Written::To(0), taken as u64);
+    if let Command::Image = asked.command {
+        let taken = take_image(asked.parts.count, bytes, image);
+        let text = write_image_taken(out, 0, taken as u64);
         return turn(tell(m, text), taken);
     }
     let n = within(length, image);
@@ -113,7 +112,7 @@ fn perform(
 // Answers a line that was read, or says which word cannot be.
 fn answer_read(
     m: Registers,
-    asked: Asked,
+    asked: Result<Asked, BadWord>,
     length: usize,
     tags: &[u64],
     bits: &[u64],
@@ -128,12 +127,12 @@ fn answer_read(
 ) -> Turn
     ensures { kept result out.new store.new frames.new bounds.new pointers.new vars.new image.new bytes.now ≡ keeping out.old (read_of length asked tags.now bits.now image.old bytes.now (state (tables m store.old frames.old bounds.old pointers.old) vars.old)) }
 {
-    if asked.bad != 0 {
-        return turn(tell(m, write_unread(out, asked.word)), length);
+    match asked {
+        Ok(asked) => perform(
+            m, asked, length, tags, bits, image, bytes, out, store, frames, bounds, pointers, vars,
+        ),
+        Err(bad) => turn(tell(m, write_unread(out, bad.0)), length),
     }
-    perform(
-        m, asked, length, tags, bits, image, bytes, out, store, frames, bounds, pointers, vars,
-    )
 }
 
 // Answers a line of the console: what it asks is done on the machine and the image, whose first `length` bytes are the image.

@@ -3,17 +3,18 @@ use Prim.Native.Nat.{ℕ, zero, suc, ◌+◌, ◌-◌, ◌<◌, ◌≤◌, min}
 use native.Mathlib.Nat.{min-eq_left, min-eq_right, min-le_left, min-le_right}
 use native.Mathlib.Decide.{dec_le}
 use native.Mathlib.Omega.{arith}
+use mathlib.Core.Bool.{Bool, false}
 use mathlib.Core.Path.{◌≡◌, refl, sym, ap, ◌∙◌}
 use mathlib.Core.List.{List, [], ◌∷◌}
 use lib.ListN.{length, take, drop, set, length-take, length-set, length-drop, drop_of_length-le}
-use lib.Seq.{sets, set_out, take-nil, take-take, take_all}
-use borrow.Author.Tests.{le-leb, lt-ltb, le-ltb, eq-eqb, ne_eqb}
-use Rattle.words.specs.Text.{Text, text, put}
+use lib.Seq.{sets, set_out, take-nil, take-take, take_all, length-take-le}
+use lib.Dec.{ltb}
+use borrow.Rule.Slice.PartMut.{put_mid}
+use borrow.Author.Tests.{lt-ltb, le-ltb}
 use Rattle.words.specs.Words.{until}
-use Rattle.words.specs.declared.Written.{Written}
-use Rattle.words.specs.declared.Written.TheVariants.{To}
 use Rattle.words.proofs.Parting.{until-within}
-use Rattle.lines.specs.Held.{line_in, held_after, held_at_end}
+use Rattle.words.proofs.Pieces.{part-sets}
+use Rattle.lines.specs.Held.{line_in, held_after}
 use Rattle.lines.specs.declared.Held.{Held}
 
 -- ---- stores that have no room
@@ -76,68 +77,66 @@ module _ (l s : List ℕ) (kept u from n : ℕ) (h : from ≡ min kept (length l
 
 -- ---- the answer
 
-put-bytes : (p : List ℕ) (at : ℕ) (before : List ℕ) → at + length p ≤ length before → (put p (text (To at) before)).bytes ≡ sets before at p
-unfolding put
-put-bytes p at before h = rw (le-leb (at + length p) (length before) h)
-
-same-held : {a b c a' b' c' : ℕ} → a ≡ a' → b ≡ b' → c ≡ c' → ◌≡◌ {A = Held} (record { length = a; at = b; whole = c }) (record { length = a'; at = b'; whole = c' })
+same-held : {a b a' b' : ℕ} {c c' : Bool} → a ≡ a' → b ≡ b' → c ≡ c' → ◌≡◌ {A = Held} (record { length = a; at = b; whole = c }) (record { length = a'; at = b'; whole = c' })
 same-held p q r = cc
-
--- the part's bytes that are stored lie in the input
-pub in_input : (s : List ℕ) (at end room n : ℕ) → at < length s → end ≡ at + until 10 (drop at s) → n ≡ min (end - at) room → at + n ≤ length s
-in_input s at end room n h e g =
-    let a : n ≤ end - at = least-left (end - at) room n g in
-    omega (arith, until-within 10 (drop at s), length-drop at s, a)
 
 module _ (l s : List ℕ) (kept at from : ℕ) (h : from ≡ min kept (length l)) where
   -- the input was taken to its end
-  pub nothing_left : length s ≤ at → (record { length = from; at = at; whole = 0 } ≡ held_after (length l) kept at (drop at s)) × (l ≡ sets l kept (line_in (drop at s)))
+  pub nothing_left : length s ≤ at → (record { length = from; at = at; whole = false } ≡ held_after (length l) kept at (drop at s)) × (l ≡ sets l kept (line_in (drop at s)))
   unfolding held_after until
   nothing_left past =
       let k = kept-length l [] kept 0 from 0 h (sym (min-eq_left {n = 0} {m = length l - from} (omega arith))) in
       rw (drop_of_length-le s past) (same-held (omega arith) (omega arith) refl, refl)
 
-  module _ (end n to : ℕ) (there : at < length s) (e : end ≡ at + until 10 (drop at s)) (g : n ≡ min (end - at) (length l - from)) (t : to ≡ at + n) where
-    gap : end - at ≡ until 10 (drop at s)
-    gap = omega arith
-
+  module _ (end n : ℕ) (there : at < length s) (e : end ≡ at + until 10 (drop at s)) (g : n ≡ min (end - at) (length l - from)) where
     count : n ≡ min (until 10 (drop at s)) (length l - from)
-    count = g ∙ ap (λ (k : ℕ). min k (length l - from)) gap
+    count = let q : end - at ≡ until 10 (drop at s) = omega arith in g ∙ ap (λ (k : ℕ). min k (length l - from)) q
 
-    has_room : from + length (take (to - at) (drop at s)) ≤ length l
-    has_room = sum (least_right kept (length l) from h) (least_right (until 10 (drop at s)) (length l - from) n count) (least-left (to - at) (length (drop at s)) _ (length-take (to - at) (drop at s)))
-      where
-        sum : {k : ℕ} → from ≤ length l → n ≤ length l - from → k ≤ to - at → from + k ≤ length l
-        sum a b c = omega arith
+    -- the part's bytes that are stored have room, and lie in the input
+    pub has_room : from + n ≤ length l
+    has_room = omega (arith, least_right kept (length l) from h, least_right (until 10 (drop at s)) (length l - from) n count)
 
-    stored : {w : Written} {after : List ℕ} → text w after ≡ put (take (to - at) (drop at s)) (text (To from) l) → after ≡ sets l kept (line_in (drop at s))
-    stored p =
-        let q : to - at ≡ n = omega arith in
-        ap (λ (x : Text). x.bytes) p ∙ put-bytes (take (to - at) (drop at s)) from l has_room
+    pub in_input : at + n ≤ length s
+    in_input = omega (arith, until-within 10 (drop at s), length-drop at s, least-left (until 10 (drop at s)) (length l - from) n count)
+
+    pub part_length : length (take (at + n - at) (drop at s)) ≡ n
+    part_length = length-take-le (at + n - at) (drop at s) (omega (arith, in_input, length-drop at s)) ∙ omega arith
+
+    stored : put_mid from (from + n - from) l (take (at + n - at) (drop at s)) ≡ sets l kept (line_in (drop at s))
+    stored =
+        let q : at + n - at ≡ n = omega arith in
+        part-sets from (from + n - from) l (take (at + n - at) (drop at s)) (part_length ∙ omega arith) (omega (arith, has_room))
         ∙ ap (λ (k : ℕ). sets l from (take k (drop at s))) q
         ∙ kept-bytes l (drop at s) kept (until 10 (drop at s)) from n h count
 
-    pub line-ends : end < length s → {w : Written} {after : List ℕ} → text w after ≡ put (take (to - at) (drop at s)) (text (To from) l)
-        → (record { length = from + n; at = end + 1; whole = 1 } ≡ held_after (length l) kept at (drop at s)) × (after ≡ sets l kept (line_in (drop at s)))
-    unfolding held_after
-    line-ends z p =
-        let d = length-drop at s in
-        let m = min-eq_left {n = until 10 (drop at s) + 1} {m = length (drop at s)} (omega arith) in
-        (same-held (kept-length l (drop at s) kept (until 10 (drop at s)) from n h count) (omega arith) (rw (lt-ltb (until 10 (drop at s)) (length (drop at s)) (omega arith))), stored p)
-
-    pub line_goes_on : length s ≤ end → {w : Written} {after : List ℕ} → text w after ≡ put (take (to - at) (drop at s)) (text (To from) l)
-        → (record { length = from + n; at = end; whole = 0 } ≡ held_after (length l) kept at (drop at s)) × (after ≡ sets l kept (line_in (drop at s)))
-    unfolding held_after
-    line_goes_on z p =
+    -- the line ends in the input, or goes on
+    place-after : (next : ℕ) → (end < length s → next ≡ end + 1) → (length s ≤ end → next ≡ end) → next ≡ at + min (until 10 (drop at s) + 1) (length (drop at s))
+    place-after next x y =
         let d = length-drop at s in
         let u = until-within 10 (drop at s) in
-        let m = min-eq_right {n = length (drop at s)} {m = until 10 (drop at s) + 1} (omega arith) in
-        (same-held (kept-length l (drop at s) kept (until 10 (drop at s)) from n h count) (omega arith) (rw (le-ltb (until 10 (drop at s)) (length (drop at s)) (omega arith))), stored p)
+        elim (dec_le (length s) end) [
+          | yes z ↦ let m = min-eq_right {n = length (drop at s)} {m = until 10 (drop at s) + 1} (omega arith) in omega (arith, y z)
+          | no z ↦ let m = min-eq_left {n = until 10 (drop at s) + 1} {m = length (drop at s)} (omega arith) in omega (arith, x (omega arith))
+        ]
 
-pub no_byte : (kept : ℕ) → kept ≡ 0 → record { length = 0; at = 0; whole = 0 } ≡ held_at_end kept
-unfolding held_at_end
-no_byte kept e = rw (eq-eqb kept 0 e, e) refl
+    ends : ltb end (length s) ≡ ltb (until 10 (drop at s)) (length (drop at s))
+    ends =
+        let d = length-drop at s in
+        elim (dec_le (length s) end) [
+          | yes z ↦ le-ltb end (length s) z ∙ sym (le-ltb (until 10 (drop at s)) (length (drop at s)) (omega arith))
+          | no z ↦ lt-ltb end (length s) (omega arith) ∙ sym (lt-ltb (until 10 (drop at s)) (length (drop at s)) (omega arith))
+        ]
 
-pub some_byte : (kept : ℕ) → (kept ≡ 0 → ⊥) → record { length = kept; at = 0; whole = 1 } ≡ held_at_end kept
-unfolding held_at_end
-some_byte kept n = rw (ne_eqb kept 0 n) refl
+    held : (next : ℕ) → (end < length s → next ≡ end + 1) → (length s ≤ end → next ≡ end) → {part : List ℕ} → part ≡ take (at + n - at) (drop at s)
+        → (record { length = from + n; at = next; whole = ltb end (length s) } ≡ held_after (length l) kept at (drop at s)) × (put_mid from (from + n - from) l part ≡ sets l kept (line_in (drop at s)))
+    unfolding held_after
+    held next x y p =
+        (same-held (kept-length l (drop at s) kept (until 10 (drop at s)) from n h count) (place-after next x y) ends, ap (put_mid from (from + n - from) l) p ∙ stored)
+
+    pub line-ends : end < length s → {part : List ℕ} → part ≡ take (at + n - at) (drop at s)
+        → (record { length = from + n; at = end + 1; whole = ltb end (length s) } ≡ held_after (length l) kept at (drop at s)) × (put_mid from (from + n - from) l part ≡ sets l kept (line_in (drop at s)))
+    line-ends z p = held (end + 1) (λ k. refl) (λ k. absurd (omega arith)) p
+
+    pub line_goes_on : length s ≤ end → {part : List ℕ} → part ≡ take (at + n - at) (drop at s)
+        → (record { length = from + n; at = end; whole = ltb end (length s) } ≡ held_after (length l) kept at (drop at s)) × (put_mid from (from + n - from) l part ≡ sets l kept (line_in (drop at s)))
+    line_goes_on z p = held end (λ k. absurd (omega arith)) (λ k. refl) p

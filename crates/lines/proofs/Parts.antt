@@ -4,6 +4,7 @@ use Prim.Native.Nat.{ℕ, zero, suc, ◌+◌, ◌-◌, ◌<◌, ◌≤◌, min}
 use native.Mathlib.Nat.{min-eq_left, min-eq_right}
 use native.Mathlib.Decide.{dec_le, ℕ_discrete}
 use native.Mathlib.Omega.{arith}
+use mathlib.Core.Bool.{true, false}
 use mathlib.Core.Path.{◌≡◌, refl, sym, ap, ap₂, ◌∙◌}
 use mathlib.Core.List.{List, [], ◌∷◌, ◌++◌, map, flatten, append_assoc, append-nil}
 use lib.ListN.{length, take, drop, length-take, length-append, length-drop}
@@ -106,7 +107,7 @@ module _ (room : ℕ) where
     fits : length (take kept line) ≤ room
     fits = omega (arith, length-take-le kept line (omega arith))
 
-    pub call_ends : after.whole ≡ 1 → taken room (take kept line) part ≡ and_then told-bytes (taken room [] (drop after.at input))
+    pub call_ends : after.whole ≡ true → taken room (take kept line) part ≡ and_then told-bytes (taken room [] (drop after.at input))
     unfolding held_after
     call_ends w =
         elim (dec_le (length part) (until 10 part)) [
@@ -118,10 +119,10 @@ module _ (room : ℕ) where
               ∙ ap₂ (λ (k d : List ℕ). and_then k (taken room [] d)) (sym (keeps line part kept e h)) (drop-drop (suc (until 10 part)) at input ∙ ap (λ (n : ℕ). drop n input) q)
         ]
       where
-        none : ◌≡◌ {A = ℕ} 0 1 → ⊥
-        none z = omega arith
+        none : false ≡ true → ⊥
+        none z = let k : ◌≡◌ {A = ℕ} 0 1 = cc in omega arith
 
-    pub call_goes_on : after.whole ≡ 0 → taken room (take kept line) part ≡ no_line told-bytes
+    pub call_goes_on : after.whole ≡ false → taken room (take kept line) part ≡ no_line told-bytes
     unfolding held_after
     call_goes_on w =
         elim (dec_le (length part) (until 10 part)) [
@@ -131,8 +132,8 @@ module _ (room : ℕ) where
           | no g ↦ absurd (none (rw (lt-ltb (until 10 part) (length part) (omega arith)) at w))
         ]
       where
-        none : ◌≡◌ {A = ℕ} 1 0 → ⊥
-        none z = omega arith
+        none : true ≡ false → ⊥
+        none z = let k : ◌≡◌ {A = ℕ} 0 1 = cc in omega arith
 
   -- ---- parts
 

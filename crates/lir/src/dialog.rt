@@ -1,14 +1,11 @@
 // `lir console`: the host's calls by hand, a command a line, one answer line each.
-ghost use Rattle.std.specs.Prelude.{◌<◌};
-
 use crate::say;
-use crate::source::{LINE_ROOM, MORE, ONE_READ, Source, advance, kept, next_line};
-use console::Turn;
+use crate::source::{LINE_ROOM, ONE_READ, Source};
 use console::session::answer;
 use memory::{
-    BOUNDS_LENGTH, FRAMES_LENGTH, Moved, POINTERS_LENGTH, Registers, STORE_LENGTH,
-    VARIABLES_LENGTH, fresh,
+    BOUNDS_LENGTH, FRAMES_LENGTH, POINTERS_LENGTH, Registers, STORE_LENGTH, VARIABLES_LENGTH, fresh,
 };
+use std::io;
 use telling::bound::within;
 
 // More bytes than a line can say.
@@ -18,19 +15,11 @@ const HEX_ROOM: usize = 131072;
 const ANSWER_ROOM: usize = 1114488;
 
 // The machine's registers, how long the image is, and the line that is being read.
-#[derive(Clone, Copy)]
+#[derive(Clone, Copy, Debug, PartialEq, Eq)]
 pub struct Talk {
     pub m: Registers,
     pub image: usize,
     pub source: Source,
-}
-
-// What a turn leaves, and the next line.
-fn next_turn(r: Turn, s: Source) -> Talk {
-    let m = r.m;
-    let image = r.image;
-    let source = next_line(s);
-    Talk { m, image, source }
 }
 
 // Answers the line, where it is whole.
@@ -47,15 +36,13 @@ fn respond(
     pointers: &mut [u64],
     vars: &mut [u64],
 ) -> Talk {
-    let s = t.source;
-    let h = s.held;
-    let m = t.m;
-    if h.whole == 0 {
+    let held = t.source.held;
+    if !held.whole {
         return t;
     }
-    let end = within(h.length, line);
+    let end = within(held.length, line);
     let r = answer(
-        m,
+        t.m,
         t.image,
         &line[..end],
         image,
@@ -67,61 +54,15 @@ fn respond(
         pointers,
         vars,
     );
-    let text = r.text;
-    say::answer(rt, out, text);
-    next_turn(r, s)
-}
-
-fn with_source(t: Talk, source: Source) -> Talk {
-    let m = t.m;
-    let image = t.image;
-    Talk { m, image, source }
-}
-
-// Some more of the input, and the answer where a line is whole.
-fn take_more(
-    rt: &HostRuntime,
-    t: Talk,
-    input: &mut [u8],
-    line: &mut [u8],
-    image: &mut [u8],
-    bytes: &mut [u8],
-    out: &mut [u8],
-    store: &mut [u8],
-    frames: &mut [u64],
-    bounds: &mut [u64],
-    pointers: &mut [u64],
-    vars: &mut [u64],
-) -> Talk {
-    let before = t.source;
-    let source = advance(rt, before, input, line);
-    respond(
-        rt,
-        with_source(t, source),
-        line,
-        image,
-        bytes,
-        out,
-        store,
-        frames,
-        bounds,
-        pointers,
-        vars,
-    )
-}
-
-// A proved loop has to end, and nothing says that the input does: turns are counted down from a number that no run uses up.
-fn turns_left(t: Talk, turns: u64) -> u64
-    requires { 0 < turns }
-    ensures { result < turns }
-{
-    let s = t.source;
-    if s.state != MORE {
-        return 0;
+    say::answer(rt, out, r.text);
+    Talk {
+        m: r.m,
+        image: r.image,
+        source: t.source.next_line(),
     }
-    turns - 1
 }
 
+// Line by line, to the end of the input. A proved loop has to end, and nothing says that the input does: its turns are more than any run has.
 fn converse(
     rt: &HostRuntime,
     start: Talk,
@@ -135,24 +76,36 @@ fn converse(
     bounds: &mut [u64],
     pointers: &mut [u64],
     vars: &mut [u64],
-) {
+) -> io::Result<()> {
     let mut t = start;
-    let mut turns = u64::MAX;
-    while 0 < turns {
-        t = take_more(
-            rt, t, input, line, image, bytes, out, store, frames, bounds, pointers, vars,
+    for _ in 0..u64::MAX {
+        let source = t.source.advance(rt, input, line)?;
+        t = respond(
+            rt,
+            Talk { source, ..t },
+            line,
+            image,
+            bytes,
+            out,
+            store,
+            frames,
+            bounds,
+            pointers,
+            vars,
         );
-        turns = turns_left(t, turns);
+        if t.source.ended {
+            break;
+        }
     }
+    Ok(())
 }
 
 // The first line of a session on fresh memory, with no image.
 fn first(m: Registers) -> Talk {
-    let source = kept(0, MORE);
     Talk {
         m,
         image: 0,
-        source,
+        source: Source::new(),
     }
 }
 
@@ -163,28 +116,31 @@ fn open(rt: &HostRuntime, line: &mut [u8], image: &mut [u8], bytes: &mut [u8], o
     let mut bounds = [0u64; BOUNDS_LENGTH];
     let mut pointers = [0u64; POINTERS_LENGTH];
     let mut vars = [0u64; VARIABLES_LENGTH];
-    match fresh(
+    let Ok(m) = fresh(
         &mut store,
         &mut frames,
         &mut bounds,
         &mut pointers,
         &mut vars,
-    ) {
-        Moved::Done(m) => converse(
-            rt,
-            first(m),
-            &mut input,
-            line,
-            image,
-            bytes,
-            out,
-            &mut store,
-            &mut frames,
-            &mut bounds,
-            &mut pointers,
-            &mut vars,
-        ),
-        Moved::Refused(_) => (),
+    ) else {
+        return;
+    };
+    let talked = converse(
+        rt,
+        first(m),
+        &mut input,
+        line,
+        image,
+        bytes,
+        out,
+        &mut store,
+        &mut frames,
+        &mut bounds,
+        &mut pointers,
+        &mut vars,
+    );
+    if let Err(e) = talked {
+        say::input_failed(rt, e);
     }
 }
 

@@ -2,12 +2,10 @@
 use std::io;
 use std::io::Write;
 use telling::bound::within;
-use words::Written;
 
 // Where standard error fails too, there is nobody to tell.
 fn complain(rt: &HostRuntime, bytes: &[u8]) {
-    let mut to = rt.stderr();
-    let _ = to.write_all(bytes);
+    let _ = rt.stderr().write_all(bytes);
 }
 
 // The reason without the number that the library adds to it.
@@ -32,21 +30,23 @@ pub fn failed(rt: &HostRuntime, what: &[u8], e: io::Error) {
     complain(rt, b"\n");
 }
 
+pub fn input_failed(rt: &HostRuntime, e: io::Error) {
+    failed(rt, b"standard input", e);
+}
+
 pub fn text(rt: &HostRuntime, bytes: &[u8]) {
-    let mut to = rt.stdout();
-    match to.write_all(bytes) {
-        Ok(_) => (),
-        Err(e) => failed(rt, b"standard output", e),
+    if let Err(e) = rt.stdout().write_all(bytes) {
+        failed(rt, b"standard output", e);
     }
 }
 
 // The answer that a buffer holds.
-pub fn answer(rt: &HostRuntime, out: &[u8], to: Written) {
+pub fn answer(rt: &HostRuntime, out: &[u8], to: Option<usize>) {
     match to {
-        Written::To(n) => {
+        Some(n) => {
             let end = within(n, out);
             text(rt, &out[..end]);
         }
-        Written::Full => complain(rt, b"lir: an answer had no room\n"),
+        None => complain(rt, b"lir: an answer had no room\n"),
     }
 }

@@ -1,7 +1,7 @@
 // `lir run` and `lir check`: one image, one answer.
-use crate::file::{Got, read_image};
+use crate::file::read_image;
 use crate::say;
-use crate::source::{FAILED, LINE_ROOM, ONE_READ, read_first};
+use crate::source::{LINE_ROOM, ONE_READ, read_first};
 use memory::{BOUNDS_LENGTH, FRAMES_LENGTH, POINTERS_LENGTH, STORE_LENGTH, VARIABLES_LENGTH};
 use once::checked::write_checked;
 use once::start_line::answer_start;
@@ -32,11 +32,12 @@ fn print_answer(rt: &HostRuntime, image: &[u8], line: &[u8]) {
 
 fn run_image(rt: &HostRuntime, image: &[u8], line: &mut [u8]) {
     let mut input = [0u8; ONE_READ];
-    let s = read_first(rt, &mut input, line);
-    let h = s.held;
-    if s.state != FAILED {
-        let end = within(h.length, line);
-        print_answer(rt, image, &line[..end]);
+    match read_first(rt, &mut input, line) {
+        Ok(n) => {
+            let end = within(n, line);
+            print_answer(rt, image, &line[..end]);
+        }
+        Err(e) => say::input_failed(rt, e),
     }
 }
 
@@ -46,35 +47,19 @@ fn print_loaded(rt: &HostRuntime, image: &[u8]) {
     say::answer(rt, &out, to);
 }
 
-fn run_file(rt: &HostRuntime, room: &mut [u8], line: &mut [u8]) {
-    match read_image(rt, room) {
-        Got::Bytes(n) => {
-            let end = within(n, room);
-            run_image(rt, &room[..end], line);
-        }
-        Got::End => (),
-        Got::Failed => (),
-    }
-}
-
-fn check_file(rt: &HostRuntime, room: &mut [u8]) {
-    match read_image(rt, room) {
-        Got::Bytes(n) => {
-            let end = within(n, room);
-            print_loaded(rt, &room[..end]);
-        }
-        Got::End => (),
-        Got::Failed => (),
-    }
-}
-
 // The arrays go by references that have their lengths in their types, so that the check never spells them out.
 fn run_with(rt: &HostRuntime, room: &mut [u8; IMAGE_ROOM], line: &mut [u8; LINE_ROOM]) {
-    run_file(rt, room, line);
+    if let Some(n) = read_image(rt, room) {
+        let end = within(n, room);
+        run_image(rt, &room[..end], line);
+    }
 }
 
 fn check_with(rt: &HostRuntime, room: &mut [u8; IMAGE_ROOM]) {
-    check_file(rt, room);
+    if let Some(n) = read_image(rt, room) {
+        let end = within(n, room);
+        print_loaded(rt, &room[..end]);
+    }
 }
 
 pub fn run(rt: &HostRuntime) {

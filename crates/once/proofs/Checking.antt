@@ -1,48 +1,46 @@
 -- The line of `lir check` from loading's answer, and from the header's refusal, which is loading's.
-use Prim.Native.Nat.{ℕ}
-use native.Mathlib.Omega.{arith}
-use mathlib.Core.Path.{◌≡◌, ap, sym, ◌∙◌}
-use mathlib.Core.List.{List}
+use Rattle.std.specs.Prelude.{Result, Ok, Err}
+use Rattle.std.proofs.Common.{◌≡◌, ℕ, List, sym, ap, ◌∙◌, arith}
 use Rattle.words.specs.Text.{Text}
-use Rattle.answers.specs.Lines.{image_refused_line, taken_line}
+use Rattle.answers.specs.Lines.{taken_line}
 use Rattle.image.specs.Parse.{Got, took, refused}
 use Rattle.image.specs.Image.{Image, image}
-use Rattle.image.specs.declared.field.Step.TheVariants.{At, Stop}
-use Rattle.loader.specs.Tables.{loaded_of, loaded_from}
+use Rattle.image.specs.Answer.{stop}
+use Rattle.image.specs.declared.number.Stop.{Stop}
+use Rattle.loader.specs.Tables.{tables_of, loaded_of, loaded_from}
 use Rattle.loader.specs.declared.load.Loaded.{Loaded}
 use Rattle.reader.specs.Header.{headed, answered}
 use Rattle.reader.specs.declared.Headed.{Headed}
-use Rattle.reader.specs.declared.Headed.TheVariants.{Refused}
 use Rattle.reader.proofs.Loaded.{load_refuses_alike}
-use Rattle.telling.specs.Told.{line}
+use Rattle.telling.specs.Told.{line, stop_line}
 use Rattle.once.specs.Checked.{checked_line}
 
+-- the line of an image that was taken
+abbrev pub taken : List ℕ → Loaded → Text
+taken out l = line (taken_line l.counts.variables l.counts.constants l.counts.functions l.counts.blocks l.instructions) out
+
 module _ (out : List ℕ) {t : Text} where
-  stop_told : (g : Got Image) (k p : ℕ) → (loaded_of g).end ≡ Stop k p → t ≡ line (image_refused_line k p) out → t ≡ line (checked_line g) out
-  unfolding loaded_of
-  stop_told (took i e) k p q h = absurd (let z : ◌≡◌ {A = ℕ} 0 1 = cc in omega arith)
-  stop_told (refused k' p') k p q h =
-      let a : k ≡ k' = cc in
-      let b : p ≡ p' = cc in
-      h ∙ rw (a, b)
+  -- an image that loading refuses
+  stop_told : (g : Got Image) (e : Stop) → loaded_of g ≡ Err e → t ≡ line (stop_line e) out → t ≡ line (checked_line g) out
+  stop_told (took i end) e q h = let z : ◌≡◌ {A = ℕ} 0 1 = cc in absurd (omega arith)
+  stop_told (refused why place) e q h =
+      let a : e ≡ stop why place = cc in
+      h ∙ ap (λ (x : Stop). line (stop_line x) out) a
 
-  at_told : (g : Got Image) (e : ℕ) → (loaded_of g).end ≡ At e
-      → t ≡ line (taken_line (loaded_of g).counts.variables (loaded_of g).counts.constants (loaded_of g).counts.functions (loaded_of g).counts.blocks (loaded_of g).instructions) out
-      → t ≡ line (checked_line g) out
-  unfolding loaded_of
-  at_told (took i e') e q h = h
-  at_told (refused k p) e q h = absurd (let z : ◌≡◌ {A = ℕ} 0 1 = cc in omega arith)
+  -- and one that it takes
+  taken_told : (g : Got Image) (l : Loaded) → loaded_of g ≡ Ok l → t ≡ taken out l → t ≡ line (checked_line g) out
+  unfolding tables_of
+  taken_told (took i end) l q h =
+      let a : l ≡ tables_of (took i end) = cc in
+      h ∙ ap (taken out) a
+  taken_told (refused why place) l q h = let z : ◌≡◌ {A = ℕ} 0 1 = cc in absurd (omega arith)
 
-  module _ (s : List ℕ) {l : Loaded} (is : l ≡ loaded_from s) where
-    pub loaded-refused : (k p : ℕ) → l.end ≡ Stop k p → t ≡ line (image_refused_line k p) out → t ≡ line (checked_line (image s)) out
-    loaded-refused k p q = stop_told (image s) k p (ap (λ (x : Loaded). x.end) (sym is) ∙ q)
+  module _ (s : List ℕ) where
+    pub loaded_refused : {r : Result Loaded Stop} (e : Stop) → r ≡ loaded_from s → r ≡ Err e → t ≡ line (stop_line e) out → t ≡ line (checked_line (image s)) out
+    loaded_refused e is q = stop_told (image s) e (sym is ∙ q)
 
-    pub loaded-taken : (e : ℕ) → l.end ≡ At e
-        → t ≡ line (taken_line l.counts.variables l.counts.constants l.counts.functions l.counts.blocks l.instructions) out
-        → t ≡ line (checked_line (image s)) out
-    loaded-taken e q h =
-        at_told (image s) e (ap (λ (x : Loaded). x.end) (sym is) ∙ q)
-        (h ∙ ap (λ (x : Loaded). line (taken_line x.counts.variables x.counts.constants x.counts.functions x.counts.blocks x.instructions) out) is)
+    pub loaded_taken : {r : Result Loaded Stop} (l : Loaded) → r ≡ loaded_from s → r ≡ Ok l → t ≡ taken out l → t ≡ line (checked_line (image s)) out
+    loaded_taken l is q = taken_told (image s) l (sym is ∙ q)
 
-  pub header_refused : (s : List ℕ) {r : Headed} (k p : ℕ) → r ≡ answered (headed s) → r ≡ Refused k p → t ≡ line (image_refused_line k p) out → t ≡ line (checked_line (image s)) out
-  header_refused s k p is q = stop_told (image s) k p (load_refuses_alike s k p (sym is ∙ q))
+    pub header_refused : {r : Result Headed Stop} (e : Stop) → r ≡ answered (headed s) → r ≡ Err e → t ≡ line (stop_line e) out → t ≡ line (checked_line (image s)) out
+    header_refused e is q = stop_told (image s) e (load_refuses_alike s e (sym is ∙ q))

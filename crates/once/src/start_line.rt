@@ -4,19 +4,19 @@ ghost use Rattle.memory.specs.Tables.{tables, state};
 ghost use Rattle.run.specs.Run.{running};
 ghost use Rattle.once.specs.Runs.{run_from, begun_run, fresh_run, answered, answering, start_answered};
 
-use commands::Asked;
+use commands::Parts;
 use commands::command::read_start_line;
-use eval::entry::Entered;
-use memory::{Moved, Registers, fresh};
+use eval::entry::EntryError;
+use instruction::step::Progress;
+use memory::{Registers, fresh};
 use run::Ran;
 use telling::answer::{write_ran, write_unread};
 use telling::begin::{begin, budget_of};
 use telling::{LONGEST, VALUES};
-use words::Written;
 
 // The run that follows a start, or the start's refusal.
 fn run_from(
-    e: Entered,
+    started: Result<Progress, EntryError>,
     image: &[u8],
     budget: u32,
     store: &mut [u8],
@@ -24,23 +24,22 @@ fn run_from(
     bounds: &mut [u64],
     pointers: &mut [u64],
     vars: &mut [u64],
-) -> Ran
-    ensures { running result store.new frames.new bounds.new pointers.new vars.new ≡ run_from image.now budget e store.old frames.old bounds.old pointers.old vars.old }
+) -> Result<Ran, EntryError>
+    ensures { running result store.new frames.new bounds.new pointers.new vars.new ≡ run_from image.now budget started store.old frames.old bounds.old pointers.old vars.old }
 {
-    match e {
-        Entered::Went(m) => {
+    match started? {
+        Progress::Next(m) => {
             eval::entry::run(image, budget, m, store, frames, bounds, pointers, vars)
         }
-        Entered::Returned(m, v) => Ran::Returned(m, v, 0),
-        Entered::Refused(number) => Ran::Refused(number),
-        Entered::NotLoaded(number, place) => Ran::NotLoaded(number, place),
+        Progress::Ended(m, v) => Ok(Ran::Returned(m, v, 0)),
     }
 }
 
 // The function that a line asks for starts on this machine, and runs.
+#[tactic(auto, unfolding(crate::specs::Runs::begun_run))]
 fn run_on(
     m: Registers,
-    asked: Asked,
+    parts: Parts,
     tags: &[u64],
     bits: &[u64],
     image: &[u8],
@@ -49,13 +48,13 @@ fn run_on(
     bounds: &mut [u64],
     pointers: &mut [u64],
     vars: &mut [u64],
-) -> Ran
-    ensures { running result store.new frames.new bounds.new pointers.new vars.new ≡ begun_run image.now asked tags.now bits.now (state (tables m store.old frames.old bounds.old pointers.old) vars.old) }
+) -> Result<Ran, EntryError>
+    ensures { running result store.new frames.new bounds.new pointers.new vars.new ≡ begun_run image.now parts tags.now bits.now (state (tables m store.old frames.old bounds.old pointers.old) vars.old) }
 {
     let e = begin(
         m,
-        asked.first,
-        asked.count,
+        parts.first,
+        parts.count,
         tags,
         bits,
         image,
@@ -68,7 +67,7 @@ fn run_on(
     run_from(
         e,
         image,
-        budget_of(asked.second),
+        budget_of(parts.second),
         store,
         frames,
         bounds,
@@ -78,8 +77,9 @@ fn run_on(
 }
 
 // The same on fresh memory.
+#[tactic(auto, unfolding(crate::specs::Runs::fresh_run))]
 fn run_fresh(
-    asked: Asked,
+    parts: Parts,
     tags: &[u64],
     bits: &[u64],
     image: &[u8],
@@ -88,15 +88,13 @@ fn run_fresh(
     bounds: &mut [u64],
     pointers: &mut [u64],
     vars: &mut [u64],
-) -> Ran
-    ensures { running result store.new frames.new bounds.new pointers.new vars.new ≡ fresh_run image.now asked tags.now bits.now store.old frames.old bounds.old pointers.old vars.old }
+) -> Result<Ran, EntryError>
+    ensures { running result store.new frames.new bounds.new pointers.new vars.new ≡ fresh_run image.now parts tags.now bits.now store.old frames.old bounds.old pointers.old vars.old }
 {
-    match fresh(store, frames, bounds, pointers, vars) {
-        Moved::Done(m) => run_on(
-            m, asked, tags, bits, image, store, frames, bounds, pointers, vars,
-        ),
-        Moved::Refused(number) => Ran::Refused(number),
-    }
+    let m = fresh(store, frames, bounds, pointers, vars)?;
+    run_on(
+        m, parts, tags, bits, image, store, frames, bounds, pointers, vars,
+    )
 }
 
 // Answers a start line.
@@ -109,7 +107,7 @@ pub fn answer_start(
     bounds: &mut [u64],
     pointers: &mut [u64],
     vars: &mut [u64],
-) -> Written
+) -> Option<usize>
     ensures { answered result out.new store.new frames.new bounds.new pointers.new vars.new ≡ answering out.old (start_answered line.now image.now store.old frames.old bounds.old pointers.old vars.old) }
 {
     if LONGEST < line.len() {
@@ -118,12 +116,13 @@ pub fn answer_start(
     let mut bytes = [0u8; 1];
     let mut tags = [0u64; VALUES];
     let mut bits = [0u64; VALUES];
-    let asked = read_start_line(line, &mut bytes, &mut tags, &mut bits);
-    if asked.bad != 0 {
-        return write_unread(out, asked.word);
+    match read_start_line(line, &mut bytes, &mut tags, &mut bits) {
+        Ok(parts) => {
+            let r = run_fresh(
+                parts, &tags, &bits, image, store, frames, bounds, pointers, vars,
+            );
+            write_ran(out, r)
+        }
+        Err(bad) => write_unread(out, bad.0),
     }
-    let r = run_fresh(
-        asked, &tags, &bits, image, store, frames, bounds, pointers, vars,
-    );
-    write_ran(out, r)
 }

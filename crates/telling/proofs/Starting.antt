@@ -1,17 +1,12 @@
--- A start's values are the context and the arguments, and a line that cannot be read is told by its word.
-use Rattle.std.proofs.Common.{◌≡◌, ℕ, ◌+◌, ◌-◌, ◌%◌, ◌^◌, min, List, length, get_or, take, drop, sym, ap, ◌∙◌, ap₂, arith}
+-- A start's values are the context and the arguments.
+use Rattle.std.proofs.Common.{◌≡◌, ℕ, ◌-◌, min, List, length, get_or, take, drop, sym, ap, ◌∙◌, ap₂, arith}
 use native.Mathlib.Nat.{min-eq_left, min-eq_right}
 use native.Mathlib.Decide.{dec_le}
-use Rattle.words.specs.Text.{Text}
-use Rattle.answers.specs.Lines.{cannot_read_line}
 use Rattle.memory.specs.Tables.{State}
 use Rattle.instruction.specs.Variables.{found}
 use Rattle.eval.specs.Entry.{Entering}
 use Rattle.eval.specs.Start.{start_entered}
-use Rattle.telling.specs.Told.{line}
-use Rattle.telling.specs.Starts.{value_count, arguments_of, begun_of, unread_line}
-
--- ---- a start's values
+use Rattle.telling.specs.Starts.{value_count, arguments_of, begun_of}
 
 -- the first value is left out
 module _ (end : ℕ) (l : List ℕ) where
@@ -34,8 +29,3 @@ module _ (s : List ℕ) (function count : ℕ) (ts bs : List ℕ) (t : State) {t
       h ∙ ap₂ (λ (x y : List ℕ). start_entered s function (found tag bits) x y t) (first_out end ts from f ∙ ap (λ (n : ℕ). arguments_of n ts) e)
       (first_out end bs from f ∙ ap (λ (n : ℕ). arguments_of n bs) e)
       ∙ ap₂ (λ (x y : ℕ). start_entered s function (found x y) (arguments_of (value_count count ts bs) ts) (arguments_of (value_count count ts bs) bs) t) a b
-
--- ---- a line that cannot be read
-
-pub unread_told : (word : ℕ) (before : List ℕ) {count : ℕ} {t : Text} → count ≡ (word + 1) % 2 ^ 64 → t ≡ line (cannot_read_line count) before → t ≡ line (unread_line word) before
-unread_told word before e h = h ∙ ap (λ (k : ℕ). line (cannot_read_line k) before) e

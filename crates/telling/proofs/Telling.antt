@@ -1,32 +1,11 @@
--- What was written for one case of an answer is the line of the answer that is that case; and parts of lists by their bounds.
-use Rattle.std.proofs.Common.{◌≡◌, ℕ, ◌≤◌, min, List, length, take, sym, ap, ◌∙◌, arith, length-take, take_all, eq-eqb, ne_eqb}
+-- Parts of lists by their bounds, and a line made from one.
+use Rattle.std.proofs.Common.{◌≡◌, ℕ, ◌≤◌, min, List, length, take, sym, ap, ◌∙◌, arith, length-take, take_all}
 use native.Mathlib.Nat.{min-eq_left, min-eq_right, min-le_right}
 use native.Mathlib.Decide.{dec_le}
 use Rattle.words.specs.Text.{Text}
-use Rattle.answers.specs.Lines.{Pieces, returned_line, returned_none_line, value_line, no_value_line}
-use Rattle.instruction.specs.declared.variables.Found.{Found}
+use Rattle.answers.specs.Lines.{Pieces}
 use Rattle.telling.specs.Bounds.{Counts}
-use Rattle.telling.specs.Told.{line, end_line, last_line}
-
--- ---- cases
-
-pub in_case : {A : Type 0} {t : Text} (tell : A → Pieces) {r this : A} (out : List ℕ) → r ≡ this → t ≡ line (tell this) out → t ≡ line (tell r) out
-in_case tell out e h = h ∙ ap (λ x. line (tell x) out) (sym e)
-
-module _ (v : Found) (out : List ℕ) {t : Text} where
-  pub end_none : (n : ℕ) → v.tag ≡ 0 → t ≡ line (returned_none_line n) out → t ≡ line (end_line v n) out
-  end_none n e h = rw (eq-eqb v.tag 0 e) h
-
-  pub end-value : (n : ℕ) → (v.tag ≡ 0 → ⊥) → t ≡ line (returned_line v.tag v.bits n) out → t ≡ line (end_line v n) out
-  end-value n e h = rw (ne_eqb v.tag 0 e) h
-
-  pub last_none : v.tag ≡ 0 → t ≡ line no_value_line out → t ≡ line (last_line v) out
-  last_none e h = rw (eq-eqb v.tag 0 e) h
-
-  pub last-value : (v.tag ≡ 0 → ⊥) → t ≡ line (value_line v.tag v.bits) out → t ≡ line (last_line v) out
-  last-value e h = rw (ne_eqb v.tag 0 e) h
-
--- ---- bounds
+use Rattle.telling.specs.Told.{line}
 
 pub counted : (n r : ℕ) (l : List ℕ) → r ≡ min n (length l) → (r ≡ min n (length l)) × Counts r l
 counted n r l e =

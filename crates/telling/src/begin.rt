@@ -5,8 +5,9 @@ ghost use Rattle.eval.specs.Entry.{entering};
 ghost use Rattle.telling.specs.Starts.{begun_of, budget_of};
 
 use by_hand::table::word_at;
-use eval::entry::Entered;
+use eval::entry::EntryError;
 use eval::start::start;
+use instruction::step::Progress;
 use instruction::variables::Found;
 use memory::Registers;
 use words::bound::least;
@@ -31,7 +32,7 @@ pub fn begin(
     bounds: &mut [u64],
     pointers: &mut [u64],
     vars: &mut [u64],
-) -> Entered
+) -> Result<Progress, EntryError>
     ensures { entering result store.new frames.new bounds.new pointers.new vars.new ≡ begun_of image.now function count tags.now bits.now (state (tables m store.old frames.old bounds.old pointers.old) vars.old) }
 {
     let context = Found {

@@ -1,5 +1,5 @@
 // The live list of the console: a record of the memory's list for each pointer.
-ghost use Rattle.std.specs.Prelude.{◌≡◌};
+ghost use Rattle.std.specs.Prelude.{◌≡◌, Some};
 ghost use Rattle.words.specs.Text.{text, puts};
 ghost use Rattle.by_hand.specs.State.{each};
 ghost use Rattle.memory.specs.Tables.{tables, state, columns};
@@ -11,20 +11,21 @@ use crate::bound::words_within;
 use answers::line::{write_labelled, write_live as write_record, write_refusal};
 use by_hand::table::word_at;
 use eval::host::host_list;
-use memory::{Outcome, Registers};
-use words::Written;
+use memory::Registers;
+use value::refusal::Refusal;
 use words::text::write_bytes;
 
+#[tactic(auto, unfolding(crate::specs::Listed::record_at))]
 fn write_record_at(
     out: &mut [u8],
-    at: Written,
+    at: usize,
     p: usize,
     live: &[u64],
     frame: &[u64],
     allocation: &[u64],
     offset: &[u64],
-) -> Written
-    ensures { text result out.new ≡ puts (record_at live.now frame.now allocation.now offset.now p) (text at out.old) }
+) -> Option<usize>
+    ensures { text result out.new ≡ puts (record_at live.now frame.now allocation.now offset.now p) (text (Some at) out.old) }
 {
     write_record(
         out,
@@ -39,22 +40,20 @@ fn write_record_at(
 // The records of so many pointers.
 fn write_records(
     out: &mut [u8],
-    at: Written,
+    at: usize,
     count: usize,
     live: &[u64],
     frame: &[u64],
     allocation: &[u64],
     offset: &[u64],
-) -> Written
-    ensures { text result out.new ≡ puts (each count 0 (record_at live.now frame.now allocation.now offset.now)) (text at out.old) }
+) -> Option<usize>
+    ensures { text result out.new ≡ puts (each count 0 (record_at live.now frame.now allocation.now offset.now)) (text (Some at) out.old) }
 {
-    let mut a = at;
-    let mut p = 0usize;
-    while p < count {
-        a = write_record_at(out, a, p, live, frame, allocation, offset);
-        p += 1;
+    let mut at = at;
+    for p in 0..count {
+        at = write_record_at(out, at, p, live, frame, allocation, offset)?;
     }
-    a
+    Some(at)
 }
 
 // `live COUNT` and the records.
@@ -65,28 +64,28 @@ fn write_list(
     frame: &[u64],
     allocation: &[u64],
     offset: &[u64],
-) -> Written
+) -> Option<usize>
     ensures { text result out.new ≡ line (columns_line count (columns live.now frame.now allocation.now offset.now)) out.old }
 {
-    let a = write_labelled(out, Written::To(0), b"live ", count as u64);
-    let b = write_records(out, a, count, live, frame, allocation, offset);
-    write_bytes(out, b, b"\n")
+    let at = write_labelled(out, 0, b"live ", count as u64)?;
+    let at = write_records(out, at, count, live, frame, allocation, offset)?;
+    write_bytes(out, at, b"\n")
 }
 
 fn write_listed(
     out: &mut [u8],
-    o: Outcome,
+    o: Result<(), Refusal>,
     count: usize,
     live: &[u64],
     frame: &[u64],
     allocation: &[u64],
     offset: &[u64],
-) -> Written
+) -> Option<usize>
     ensures { text result out.new ≡ line (listed_line o count (columns live.now frame.now allocation.now offset.now)) out.old }
 {
     match o {
-        Outcome::Done => write_list(out, count, live, frame, allocation, offset),
-        Outcome::Refused(number) => write_refusal(out, Written::To(0), number),
+        Ok(()) => write_list(out, count, live, frame, allocation, offset),
+        Err(why) => write_refusal(out, 0, why.number()),
     }
 }
 
@@ -103,7 +102,7 @@ fn write_columns(
     frame: &mut [u64],
     allocation: &mut [u64],
     offset: &mut [u64],
-) -> Written
+) -> Option<usize>
     ensures { text result out.new ≡ line (listing_line m.pointers (host_listed (state (tables m store.now frames.now bounds.now pointers.now) vars.now) live.old frame.old allocation.old offset.old)) out.old }
 {
     let o = host_list(
@@ -122,7 +121,7 @@ pub fn write_live(
     bounds: &[u64],
     pointers: &[u64],
     vars: &[u64],
-) -> Written
+) -> Option<usize>
     ensures { text result out.new ≡ line (live_line_of room (state (tables m store.now frames.now bounds.now pointers.now) vars.now)) out.old }
 {
     let mut live = [0u64; 4096];

@@ -4,6 +4,7 @@ pub mod Numbers
 pub mod HexDigits
 pub mod Bytes
 pub mod Parting
+pub mod Spans
 pub mod Table
 pub mod Names
 pub mod Reading

@@ -1,92 +1,46 @@
--- The table of names, and that of the largest bits, by a test of each that is computed; and the names there and back.
-use Prim.Native.Nat.{ℕ, suc, ◌+◌, ◌-◌, ◌*◌, ◌<◌, ◌≤◌}
-use native.Mathlib.Decide.{dec_le}
+-- The table of names; that of the largest bits, by a test of each that is computed; and the names there and back.
+use Prim.Native.Nat.{ℕ, suc, ◌+◌, ◌-◌, ◌<◌, ◌≤◌}
 use native.Mathlib.Numerals.{add-one}
 use native.Mathlib.Omega.{arith}
-use mathlib.Core.Bool.{Bool, true, false, ◌&&◌, ◌||◌}
-use mathlib.Core.Path.{◌≡◌, refl, sym, ap, ap₂, ◌∙◌}
+use mathlib.Core.Bool.{Bool, true, false, ◌||◌}
+use mathlib.Core.Path.{◌≡◌, refl, sym, ap, ◌∙◌}
 use mathlib.Core.List.{List, [], ◌∷◌}
-use lib.ListN.{length, get_or, take, drop, get_or-eq_default, drop_of_length-le}
+use lib.ListN.{length, get_or, drop, get_or-eq_default, drop_of_length-le}
 use lib.Seq.{drop-cons}
 use lib.Dec.{leb, eqb, leb-suc-suc}
-use borrow.Author.Tests.{leb-true, eqb-true, le-leb, lt-leb, le-ltb, ne_eqb}
+use borrow.Author.Tests.{eqb-true, le-ltb, ne_eqb}
+use Rattle.std.specs.Prelude.{Option, Some, None}
 use Rattle.value.specs.Answer.{pick}
 use Rattle.value.specs.Value.{Kind, bool, u8, u16, u32, u64, i8, i16, i32, i64, f32, f64, char, asn, pointer, tag, size}
 use Rattle.value.specs.Bytes.{same_bytes}
-use Rattle.value.proofs.Truth.{both_true}
-use Rattle.words.specs.Kinds.{name, names, name_of, kind_from, kind_read, limit_of, limits, fits, rows, row_of}
-use Rattle.words.specs.declared.Read.{Read}
-use Rattle.words.specs.declared.Read.TheVariants.{Number, Bad}
+use Rattle.words.specs.Kinds.{name, names, name_of, kind_from, kind_read, limit_of, limits, fits}
 use Rattle.words.proofs.Parting.{same-is}
 use Rattle.words.proofs.Table.{every, entry}
-
--- ---- the rows
-
-row_test : ℕ → List ℕ → Bool
-row_test t n = leb (get_or (rows names) (t * 8) 0) 7 && same_bytes (take (get_or (rows names) (t * 8) 0) (drop (t * 8 + 1) (rows names))) n
-
-rows_pass : every row_test 0 names ≡ true
-unfolding row_test rows names name same_bytes
-rows_pass = refl
 
 pub names-count : length names ≡ 15
 unfolding names
 names-count = refl
 
-pub rows-count : length (rows names) ≡ 120
-unfolding rows names name
-rows-count = refl
-
-record Row (t : ℕ) : Type 0 where
-  short : get_or (rows names) (t * 8) 0 ≤ 7
-  is : take (get_or (rows names) (t * 8) 0) (drop (t * 8 + 1) (rows names)) ≡ name_of t
-
-row_at : (t : ℕ) → t < 15 → Row t
-unfolding row_test name_of
-row_at t h =
-    let b = entry row_test [] names rows_pass t (omega (arith, names-count)) in
-    let s = both_true (leb (get_or (rows names) (t * 8) 0) 7) (same_bytes (take (get_or (rows names) (t * 8) 0) (drop (t * 8 + 1) (rows names))) (get_or names t [])) b in
-    record { short = leb-true _ 7 s.0; is = same-is _ _ s.1 }
-
-row-of : (t : ℕ) → (row_of t < 15) × (name_of (row_of t) ≡ name_of t)
-unfolding name_of names tag
-row-of t =
-    elim (dec_le 15 t) [
-      | yes l ↦ rw (lt-leb t 14 (omega arith)) (omega arith, sym (get_or-eq_default names [] {n = t} (omega (arith, names-count))))
-      | no l ↦ rw (le-leb t 14 (omega arith)) (omega arith, refl)
-    ]
-
--- the row of a tag, as the code has it
-module _ (table : List ℕ) (row long t : ℕ) (e : table ≡ rows names) (r : row ≡ row_of t) where
-  pub row_small : row < 15
-  row_small = omega (arith, (row-of t).0)
-
-  module _ (s : long ≡ get_or table (row * 8) 0) where
-    pub name_short : long ≤ 7
-    name_short = omega (arith, ap (λ (l : List ℕ). get_or l (row * 8) 0) e, (row_at row row_small).short)
-
-    pub name_there : take (row * 8 + 1 + long - (row * 8 + 1)) (drop (row * 8 + 1) table) ≡ name_of t
-    name_there =
-        let d : row * 8 + 1 + long - (row * 8 + 1) ≡ long = omega arith in
-        ap₂ (λ (n : ℕ) (l : List ℕ). take n (drop (row * 8 + 1) l)) (d ∙ s ∙ ap (λ (l : List ℕ). get_or l (row * 8) 0) e) e
-        ∙ (row_at row row_small).is ∙ ap name_of r ∙ (row-of t).1
+pub no_name : (t : ℕ) → 14 < t → [] ≡ name_of t
+unfolding name_of
+no_name t h = sym (get_or-eq_default names [] {n = t} (omega (arith, names-count)))
 
 -- ---- a search of the names
 
 module _ (w : List ℕ) (t : ℕ) (h : t < 15) where
-  here : kind_from w t (drop t names) ≡ pick (same_bytes w (name_of t)) (Number t) (kind_from w (t + 1) (drop (t + 1) names))
+  here : kind_from w t (drop t names) ≡ pick (same_bytes w (name_of t)) (Some t) (kind_from w (t + 1) (drop (t + 1) names))
   unfolding kind_from name_of
   here =
       ap (kind_from w t) (drop-cons names t [] (omega (arith, names-count)))
-      ∙ ap (λ (k : ℕ). pick (same_bytes w (get_or names t [])) (Number t) (kind_from w k (drop k names))) (sym (add-one t))
+      ∙ ap (λ (k : ℕ). pick (same_bytes w (get_or names t [])) (Some t) (kind_from w k (drop k names))) (sym (add-one t))
 
-  pub named : {whole : Read} → same_bytes w (name_of t) ≡ true → kind_from w t (drop t names) ≡ whole → Number t ≡ whole
+  pub named : {whole : Option ℕ} → same_bytes w (name_of t) ≡ true → kind_from w t (drop t names) ≡ whole → Some t ≡ whole
   named s e = sym (here ∙ rw s) ∙ e
 
-  pub not_named : {whole : Read} → same_bytes w (name_of t) ≡ false → kind_from w t (drop t names) ≡ whole → kind_from w (t + 1) (drop (t + 1) names) ≡ whole
+  pub not_named : {whole : Option ℕ} → same_bytes w (name_of t) ≡ false → kind_from w t (drop t names) ≡ whole → kind_from w (t + 1) (drop (t + 1) names) ≡ whole
   not_named s e = sym (here ∙ rw s) ∙ e
 
-pub none_named : (w : List ℕ) (t : ℕ) {whole : Read} → 15 ≤ t → kind_from w t (drop t names) ≡ whole → Bad ≡ whole
+pub none_named : (w : List ℕ) (t : ℕ) {whole : Option ℕ} → 15 ≤ t → kind_from w t (drop t names) ≡ whole → None ≡ whole
 unfolding kind_from
 none_named w t h e = ap (kind_from w t) (sym (drop_of_length-le names {i = t} (omega (arith, names-count)))) ∙ e
 
@@ -123,14 +77,14 @@ module _ (t b : ℕ) where
 -- ---- there and back
 
 -- whether a word was read as this number
-says : ℕ → Read → Bool
-says t (Number n) = eqb n t
-says t Bad = false
+says : ℕ → Option ℕ → Bool
+says t (Some n) = eqb n t
+says t None = false
 
-said : (t : ℕ) (r : Read) → says t r ≡ true → r ≡ Number t
+said : (t : ℕ) (r : Option ℕ) → says t r ≡ true → r ≡ Some t
 unfolding says
-said t (Number n) e = ap Number (eqb-true n t e)
-said t Bad e = let z : ◌≡◌ {A = ℕ} 0 1 = cc in absurd (omega arith)
+said t (Some n) e = ap Some (eqb-true n t e)
+said t None e = let z : ◌≡◌ {A = ℕ} 0 1 = cc in absurd (omega arith)
 
 name_test : ℕ → List ℕ → Bool
 name_test t n = eqb t 0 || says t (kind_read n)
@@ -140,19 +94,19 @@ unfolding name_test says kind_read kind_from names name same_bytes
 names_pass = refl
 
 -- a name that was written is read as its tag
-pub there : (t : ℕ) → 0 < t → t < 15 → kind_read (name_of t) ≡ Number t
+pub there : (t : ℕ) → 0 < t → t < 15 → kind_read (name_of t) ≡ Some t
 unfolding name_test name_of
 there t p h =
     let b : (eqb t 0 || says t (kind_read (get_or names t []))) ≡ true = entry name_test [] names names_pass t (omega (arith, names-count)) in
     said t (kind_read (get_or names t [])) (rw (ne_eqb t 0 (λ e. omega arith)) at b)
 
-from_names : (w : List ℕ) (i : ℕ) (ns : List (List ℕ)) (t : ℕ) → kind_from w i ns ≡ Number t → (i ≤ t) × (t < i + length ns) × (get_or ns (t - i) [] ≡ w)
+from_names : (w : List ℕ) (i : ℕ) (ns : List (List ℕ)) (t : ℕ) → kind_from w i ns ≡ Some t → (i ≤ t) × (t < i + length ns) × (get_or ns (t - i) [] ≡ w)
 unfolding kind_from
 from_names w i [] t e = let z : ◌≡◌ {A = ℕ} 0 1 = cc in absurd (omega arith)
 from_names w i (n ∷ ns) t e = go (same_bytes w n) refl e (from_names w (suc i) ns t)
   where
-    go : (b : Bool) → same_bytes w n ≡ b → pick b (Number i) (kind_from w (suc i) ns) ≡ Number t
-        → (kind_from w (suc i) ns ≡ Number t → (suc i ≤ t) × (t < suc i + length ns) × (get_or ns (t - suc i) [] ≡ w))
+    go : (b : Bool) → same_bytes w n ≡ b → pick b (Some i) (kind_from w (suc i) ns) ≡ Some t
+        → (kind_from w (suc i) ns ≡ Some t → (suc i ≤ t) × (t < suc i + length ns) × (get_or ns (t - suc i) [] ≡ w))
         → (i ≤ t) × (t < i + suc (length ns)) × (get_or (n ∷ ns) (t - i) [] ≡ w)
     go true s e f =
         let q : i ≡ t = cc in
@@ -164,7 +118,7 @@ from_names w i (n ∷ ns) t e = go (same_bytes w n) refl e (from_names w (suc i)
         (omega (arith, r.0), omega (arith, r.1), ap (λ (k : ℕ). get_or (n ∷ ns) k []) z ∙ r.2)
 
 -- a tag that was read is written as the same name
-pub back : (w : List ℕ) (t : ℕ) → kind_read w ≡ Number t → (0 < t) × (t < 15) × (name_of t ≡ w)
+pub back : (w : List ℕ) (t : ℕ) → kind_read w ≡ Some t → (0 < t) × (t < 15) × (name_of t ≡ w)
 unfolding kind_read name_of names
 back w t e =
     let r = from_names w 1 (drop 1 names) t e in

@@ -1,7 +1,7 @@
 -- There and back: what is written is read as the number, and a number that was read is written as the same digits.
 use Prim.Native.Nat.{ℕ, zero, suc, ◌+◌, ◌-◌, ◌*◌, ◌/◌, ◌%◌, ◌^◌, ◌<◌, ◌≤◌}
 use native.Mathlib.Nat.{pow-suc, div-lt_iff_lt-mul, le-div_iff_mul-le, add-zero, zero-add, pow-succ', mul_assoc, mul-le-mul_right, le-add_right, le_trans, le_antisymm, lt_of_lt_of_le, pow-le-pow_right, le-mul_of_pos_right}
-use native.Mathlib.Numerals.{sub-one}
+use native.Mathlib.Numerals.{add-one, sub-one}
 use native.Mathlib.Decide.{dec_le, ℕ_discrete}
 use native.Mathlib.Omega.{arith}
 use mathlib.Core.Bool.{Bool, true, false, ◌&&◌}
@@ -10,11 +10,11 @@ use mathlib.Core.List.{List, [], ◌∷◌, ◌++◌, append_assoc, append-nil}
 use lib.ListN.{length, get_or, get_or-append}
 use lib.Dec.{leb, ltb}
 use borrow.Author.Tests.{lt-ltb, le-leb, ltb-true, leb-true}
+use Rattle.std.specs.Prelude.{Option, Some, None}
+use Rattle.std.specs.Option.{IfNone, IfSome, MatchOption}
 use Rattle.value.specs.Answer.{pick}
 use Rattle.value.proofs.Truth.{both_true}
 use Rattle.words.specs.Number.{is_digit, all_digits, value_after, digits_say, number, digits, places_within, places, decimal}
-use Rattle.words.specs.declared.Read.{Read}
-use Rattle.words.specs.declared.Read.TheVariants.{Number, Bad}
 use Rattle.words.proofs.Digits.{last-place, more-places, Held, held-less, length_digits, none_led, one_led, more_led, zero_led}
 
 -- ---- what the digits of a number say
@@ -105,12 +105,12 @@ led (suc (suc j)) n p t =
     more_led (digits (suc (suc j)) n) (λ e. omega arith) (λ e. omega arith)
     (first_digit (suc j) n (rw (sub-one (suc (suc j))) at (t.needed (omega arith))) t.enough)
 
-said : (k n : ℕ) → n < 10 ^ k → n < 2 ^ 64 → digits_say 0 (digits k n) ≡ Number n
+said : (k n : ℕ) → n < 10 ^ k → n < 2 ^ 64 → digits_say 0 (digits k n) ≡ Some n
 unfolding digits_say
 said k n h g = rw (all_digits_lem k n, value-digits k n h, lt-ltb n (2 ^ 64) g)
 
 -- what is written is read as the number
-pub there : (n : ℕ) → n < 2 ^ 64 → number (decimal n) ≡ Number n
+pub there : (n : ℕ) → n < 2 ^ 64 → number (decimal n) ≡ Some n
 unfolding decimal places
 there n h =
     let t = taken 19 n (omega arith) in
@@ -178,11 +178,11 @@ record Says (w : List ℕ) (n : ℕ) : Type 0 where
   value : value_after 0 w ≡ n
   below : n < 2 ^ 64
 
-says : (w : List ℕ) (n : ℕ) → digits_say 0 w ≡ Number n → Says w n
+says : (w : List ℕ) (n : ℕ) → digits_say 0 w ≡ Some n → Says w n
 unfolding digits_say
 says w n e = go (all_digits w) (ltb (value_after 0 w) (2 ^ 64)) refl refl e
   where
-    go : (a b : Bool) → all_digits w ≡ a → ltb (value_after 0 w) (2 ^ 64) ≡ b → pick (a && b) (Number (value_after 0 w)) Bad ≡ Number n → Says w n
+    go : (a b : Bool) → all_digits w ≡ a → ltb (value_after 0 w) (2 ^ 64) ≡ b → pick (a && b) (Some (value_after 0 w)) None ≡ Some n → Says w n
     go true true d l e =
         let v : value_after 0 w ≡ n = cc in
         record { all = d; value = v; below = omega (arith, ltb-true (value_after 0 w) (2 ^ 64) l) }
@@ -213,11 +213,11 @@ from_said b bs n s d =
     lead : (m p n : ℕ) → 0 < m → m * p ≤ n → p ≤ n
     lead m p n h g = omega (arith, le-mul_of_pos_right p h)
 
-never : {B : Type 0} {r : Read} {n : ℕ} → Bad ≡ r → r ≡ Number n → B
+never : {B : Type 0} {r : Option ℕ} {n : ℕ} → None ≡ r → r ≡ Some n → B
 never {B} {r} {n} e f = let z : ◌≡◌ {A = ℕ} 0 1 = cc in absurd (omega arith)
 
 -- a number that was read is written as the same digits, and is below 2^64
-pub back : (w : List ℕ) (n : ℕ) → number w ≡ Number n → (decimal n ≡ w) × (n < 2 ^ 64)
+pub back : (w : List ℕ) (n : ℕ) → number w ≡ Some n → (decimal n ≡ w) × (n < 2 ^ 64)
 back [] n e = never (none_led [] refl) e
 back (b ∷ bs) n e =
     elim (ℕ_discrete (length bs) 0) [
@@ -227,3 +227,18 @@ back (b ∷ bs) n e =
         | no d ↦ from_said b bs n (says (b ∷ bs) n (more_led (b ∷ bs) (λ k. omega arith) (λ k. omega arith) d ∙ e)) (λ l. d)
       ]
     ]
+
+-- ---- how many digits a number takes, by its power of ten
+
+-- a count of digits that is enough and needed is the count
+places-are : (n k : ℕ) → n < 2 ^ 64 → 0 < k → Taken n k → k ≡ places n
+unfolding places
+places-are n k h p t =
+    let u = taken 19 n (omega arith) in
+    le_antisymm (no_fewer n (places_within 19 n) k (some-place 19 n) u t) (no_fewer n k (places_within 19 n) p t u)
+
+pub places-counted : (n : ℕ) → n < 2 ^ 64 → (o : Option ℕ) (r : ℕ) → IfNone o (n ≡ 0) → IfSome o (λ k. 10 ^ k ≤ n) → IfSome o (λ k. n < 10 * 10 ^ k)
+    → {Q : ℕ → Type 0} → MatchOption o (r ≡ 1) Q → ((k : ℕ) → Q k → r ≡ k + 1) → r ≡ places n
+places-counted n h None r z l g e f = e ∙ places-are n 1 h (omega arith) (record { enough = omega arith; needed = λ i. absurd (omega arith) })
+places-counted n h (Some k) r z l g e f =
+    f k e ∙ places-are n (k + 1) h (omega arith) (record { enough = rw (add-one, pow-succ' 10 k) g; needed = λ i. rw (add-one, sub-one) l })

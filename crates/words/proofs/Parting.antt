@@ -1,37 +1,37 @@
--- One byte more of a search, a comparison or a count of words; and a line as its first word and the rest.
-use Prim.Native.Nat.{ℕ, zero, suc, ◌+◌, ◌-◌, ◌<◌, ◌≤◌}
-use native.Mathlib.Numerals.{add-one, sub-one}
+-- A search, a comparison and the words of a line, in the library's words; and a line as its first word and the rest.
+use Prim.Native.Nat.{ℕ, suc, ◌+◌, ◌<◌, ◌≤◌}
 use native.Mathlib.Decide.{dec_le, ℕ_discrete}
 use native.Mathlib.Omega.{arith}
-use mathlib.Core.Bool.{Bool, true, false, ◌&&◌}
-use mathlib.Core.Path.{◌≡◌, refl, sym, ap, ap₂, subst⁻¹, subst₂, ◌∙◌}
+use mathlib.Core.Bool.{Bool, true, false, not, cond, ◌&&◌}
+use mathlib.Core.Logic.{◌⊎◌, inl, inr}
+use mathlib.Core.Path.{◌≡◌, refl, sym, ap, ap₂, ◌∙◌}
 use mathlib.Core.List.{List, [], ◌∷◌}
-use lib.ListN.{length, get_or, take, drop, length-drop, drop_of_length-le}
-use lib.Seq.{take_all, drop-cons, drop-drop, length-take-le}
-use lib.Dec.{eqb}
-use borrow.Author.Tests.{eq-eqb, ne_eqb, eqb-true}
-use Rattle.words.specs.Words.{until, onto, words, span_from, word_at, Stands, parts}
-use Rattle.words.specs.declared.Span.{Span}
+use lib.ListN.{length, get_or, take, drop, drop_of_length-le}
+use lib.Dec.{eqb, ltb}
+use lib.Pointwise.{pointwise}
+use denote.Ref.{Bor}
+use borrow.Author.Tests.{eq-eqb, ne_eqb, eqb-true, lt-ltb, le-ltb}
+use Rattle.std.specs.Prelude.{Option, Some, None}
+use Rattle.std.specs.Option.{option_map, unwrap_or, UnwrapsOrElse, MatchOption}
+use Rattle.std.specs.List.{slice_get, slice_range, slice_split, onto_first, position_or_len}
+use Rattle.std.proofs.lemmas.Option.{unwrap_or-slice_get}
+use Rattle.std.proofs.lemmas.List.{take_rest}
+use Rattle.value.specs.Answer.{pick}
 use Rattle.value.specs.Bytes.{same_bytes}
 use Rattle.value.proofs.Truth.{both_true}
-
-at_head : (s : List ℕ) (i : ℕ) → i < length s → drop i s ≡ get_or s i 0 ∷ drop (i + 1) s
-at_head s i h = drop-cons s i 0 h ∙ ap (λ (k : ℕ). get_or s i 0 ∷ drop k s) (sym (add-one i))
+use Rattle.words.specs.Words.{until, onto, words, parts}
 
 -- ---- a search
 
-module _ (b : ℕ) (s : List ℕ) (i : ℕ) where
-  pub found_here : i < length s → get_or s i 0 ≡ b → until b (drop i s) ≡ 0
-  unfolding until
-  found_here h e = ap (until b) (at_head s i h) ∙ rw (eq-eqb (get_or s i 0) b e)
-
-  pub found_later : i < length s → (get_or s i 0 ≡ b → ⊥) → until b (drop i s) ≡ suc (until b (drop (i + 1) s))
-  unfolding until
-  found_later h e = ap (until b) (at_head s i h) ∙ rw (ne_eqb (get_or s i 0) b e)
-
-  pub not_found : length s ≤ i → until b (drop i s) ≡ 0
-  unfolding until
-  not_found h = ap (until b) (drop_of_length-le s h)
+-- the place at which the library's `position` finds the byte
+pub until-position : (b : ℕ) (s : List ℕ) → until b s ≡ position_or_len (λ x. eqb x b) s
+unfolding until
+until-position b [] = refl
+until-position b (x ∷ xs) = go (eqb x b) (until-position b xs)
+  where
+    go : (t : Bool) → until b xs ≡ position_or_len (λ x. eqb x b) xs → pick t 0 (suc (until b xs)) ≡ cond (not t) (1 + position_or_len (λ x. eqb x b) xs) 0
+    go true e = refl
+    go false e = omega (arith, e)
 
 pub until-within : (b : ℕ) (s : List ℕ) → until b s ≤ length s
 unfolding until
@@ -42,31 +42,38 @@ until-within b (x ∷ xs) =
       | no e ↦ rw (ne_eqb x b e) (omega (arith, until-within b xs))
     ]
 
+-- what the library finds in what is left from a place on
+pub until-found : (b from : ℕ) (s rest : List ℕ) (p : Option ℕ) → rest ≡ drop from s
+    → p ≡ cond (ltb (position_or_len (λ x. eqb x b) rest) (length rest)) (Some (position_or_len (λ x. eqb x b) rest)) None
+    → unwrap_or p (length rest) ≡ until b (drop from s)
+until-found b from s rest p e q =
+    let u = until-position b rest in
+    let w = until-within b rest in
+    ap (λ (o : Option ℕ). unwrap_or o (length rest)) q ∙ chosen (position_or_len (λ x. eqb x b) rest) (length rest) (omega arith) ∙ sym u ∙ ap (until b) e
+  where
+    chosen : (k n : ℕ) → k ≤ n → unwrap_or (cond (ltb k n) (Some k) None) n ≡ k
+    chosen k n h =
+        elim (dec_le n k) [
+          | yes g ↦ rw (le-ltb k n g) (omega arith)
+          | no g ↦ rw (lt-ltb k n (omega arith))
+        ]
+
+-- what is left from a place on, where the place is in the slice; else no byte
+pub rest-is : (s : List ℕ) (from : ℕ) (o : Option (Bor (List ℕ))) (r : Bor (List ℕ))
+    → MatchOption o ((length s < from) ⊎ (length s < length s)) (λ x. (from ≤ length s) × (length s ≤ length s) × (x.now ≡ slice_range s from (length s)) × (length x.now + from ≡ length s))
+    → UnwrapsOrElse o (λ d. d.now ≡ []) r → r.now ≡ drop from s
+rest-is s from None r (inl h) u = u ∙ sym (drop_of_length-le s (omega arith))
+rest-is s from None r (inr h) u = absurd (omega arith)
+rest-is s from (Some x) r h u = ap (λ (b : Bor (List ℕ)). b.now) u ∙ h.2 ∙ take_rest s from
+
 -- ---- a comparison
 
-pub other_length : (a b : List ℕ) → (length a ≡ length b → ⊥) → false ≡ same_bytes a b
+pub pointwise-same : (a b : List ℕ) → pointwise eqb a b ≡ same_bytes a b
 unfolding same_bytes
-other_length [] [] h = absurd (h refl)
-other_length [] (y ∷ ys) h = refl
-other_length (x ∷ xs) [] h = refl
-other_length (x ∷ xs) (y ∷ ys) h = go (eqb x y) (other_length xs ys (λ e. h (ap suc e)))
-  where
-    go : (t : Bool) → false ≡ same_bytes xs ys → false ≡ (t && same_bytes xs ys)
-    go true e = e
-    go false e = refl
-
-module _ (a b : List ℕ) (i : ℕ) {whole : Bool} (h : i < length a) (g : i < length b) (e : same_bytes (drop i a) (drop i b) ≡ whole) where
-  pub other_byte : (get_or a i 0 ≡ get_or b i 0 → ⊥) → false ≡ whole
-  unfolding same_bytes
-  other_byte d = sym (ap₂ same_bytes (at_head a i h) (at_head b i g) ∙ rw (ne_eqb (get_or a i 0) (get_or b i 0) d)) ∙ e
-
-  pub same_byte : get_or a i 0 ≡ get_or b i 0 → same_bytes (drop (i + 1) a) (drop (i + 1) b) ≡ whole
-  unfolding same_bytes
-  same_byte d = sym (ap₂ same_bytes (at_head a i h) (at_head b i g) ∙ rw (eq-eqb (get_or a i 0) (get_or b i 0) d)) ∙ e
-
-pub all_same : (a b : List ℕ) (i : ℕ) {whole : Bool} → length a ≤ i → length b ≤ i → same_bytes (drop i a) (drop i b) ≡ whole → true ≡ whole
-unfolding same_bytes
-all_same a b i h g e = sym (ap₂ same_bytes (drop_of_length-le a h) (drop_of_length-le b g)) ∙ e
+pointwise-same [] [] = refl
+pointwise-same [] (y ∷ ys) = refl
+pointwise-same (x ∷ xs) [] = refl
+pointwise-same (x ∷ xs) (y ∷ ys) = ap (λ (t : Bool). eqb x y && t) (pointwise-same xs ys)
 
 -- the test and the equation
 pub same-is : (a b : List ℕ) → same_bytes a b ≡ true → a ≡ b
@@ -97,20 +104,30 @@ pub length-onto : (x : ℕ) (ws : List (List ℕ)) → 0 < length ws → length 
 length-onto x [] h = absurd (omega arith)
 length-onto x (w ∷ ws) h = refl
 
-module _ (line : List ℕ) (i : ℕ) where
-  pub at_space : i < length line → get_or line i 0 ≡ 32 → length (words (drop i line)) ≡ suc (length (words (drop (i + 1) line)))
-  unfolding words parts
-  at_space h e = ap (λ (l : List ℕ). length (words l)) (at_head line i h) ∙ rw (eq-eqb (get_or line i 0) 32 e)
+-- the parts that the library's `split` gives
+pub words-split : (line : List ℕ) → words line ≡ slice_split (λ b. eqb b 32) line
+unfolding words parts
+words-split [] = refl
+words-split (x ∷ xs) = go (eqb x 32) (words xs) (words-split xs)
+  where
+    first-onto : (ps : List (List ℕ)) → onto x ps ≡ onto_first x ps
+    first-onto [] = refl
+    first-onto (p ∷ ps) = refl
 
-  pub at_other : i < length line → (get_or line i 0 ≡ 32 → ⊥) → length (words (drop i line)) ≡ length (words (drop (i + 1) line))
-  unfolding words parts
-  at_other h e =
-      ap (λ (l : List ℕ). length (words l)) (at_head line i h)
-      ∙ rw (ne_eqb (get_or line i 0) 32 e) (length-onto (get_or line i 0) (words (drop (i + 1) line)) (some_word (drop (i + 1) line)))
+    go : (t : Bool) (ps : List (List ℕ)) {qs : List (List ℕ)} → ps ≡ qs → pick t ([] ∷ ps) (onto x ps) ≡ cond t ([] ∷ qs) (onto_first x qs)
+    go true ps e = ap (λ (l : List (List ℕ)). [] ∷ l) e
+    go false ps e = first-onto ps ∙ ap (onto_first x) e
 
-  pub at-end : length line ≤ i → length (words (drop i line)) ≡ 1
-  unfolding words parts
-  at-end h = ap (λ (l : List ℕ). length (words l)) (drop_of_length-le line h)
+-- the word that a choice of one among them gives, or no byte
+pub word-chosen : (line : List ℕ) (k : ℕ) (r : Option (Bor (List ℕ))) (w : Bor (List ℕ)) → option_map (λ x. x.now) r ≡ slice_get (slice_split (λ b. eqb b 32) line) k
+    → UnwrapsOrElse r (λ d. d.now ≡ []) w → w.now ≡ get_or (words line) k []
+word-chosen line k r w e u =
+    chosen r u ∙ ap (λ (o : Option (List ℕ)). unwrap_or o []) e ∙ unwrap_or-slice_get (slice_split (λ b. eqb b 32) line) k []
+    ∙ ap (λ (ws : List (List ℕ)). get_or ws k []) (sym (words-split line))
+  where
+    chosen : (r : Option (Bor (List ℕ))) → UnwrapsOrElse r (λ d. d.now ≡ []) w → w.now ≡ unwrap_or (option_map (λ x. x.now) r) []
+    chosen None u = u
+    chosen (Some x) u = ap (λ (b : Bor (List ℕ)). b.now) u
 
 -- ---- a line as its first word and the rest
 
@@ -157,115 +174,3 @@ pub last_word : (s : List ℕ) → length s ≤ until 32 s → words s ≡ s ∷
 unfolding words parts
 last_word [] h = refl
 last_word (x ∷ xs) h = last-part 32 ([] ∷ []) (λ y. refl) x xs h
-
--- how far the first space is from a place on
-abbrev pub gap : List ℕ → ℕ → ℕ
-gap line at = until 32 (drop at line)
-
--- the words from a place on, as the code finds them: `end` is the place after the first
-module _ (line : List ℕ) (at end : ℕ) (h : at ≤ length line) (e : end ≡ at + gap line at) where
-  pub first-at : end < length line → words (drop at line) ≡ take (gap line at) (drop at line) ∷ words (drop (end + 1) line)
-  first-at l =
-      first_word (drop at line) (omega (arith, length-drop at line))
-      ∙ ap (λ (m : List ℕ). take (gap line at) (drop at line) ∷ words m) (drop-drop (suc (gap line at)) at line ∙ ap (λ (k : ℕ). drop k line) f)
-    where
-      f : at + suc (gap line at) ≡ end + 1
-      f = omega arith
-
-  pub last-at : length line ≤ end → words (drop at line) ≡ drop at line ∷ []
-  last-at l = last_word (drop at line) (omega (arith, length-drop at line))
-
-  pub first-size : length (take (gap line at) (drop at line)) ≡ gap line at
-  first-size = length-take-le (gap line at) (drop at line) (until-within 32 (drop at line))
-
-  here_of : (w : List ℕ) (ws : List (List ℕ)) → words (drop at line) ≡ w ∷ ws → end ≡ at + length w
-      → ◌≡◌ {A = Span} (record { from = at; to = end }) (span_from at (words (drop at line)) 0)
-  unfolding span_from
-  here_of w ws p q = rw (p, q)
-
-  pub span_here : ◌≡◌ {A = Span} (record { from = at; to = end }) (span_from at (words (drop at line)) 0)
-  span_here =
-      elim (dec_le (length line) end) [
-        | yes l ↦ here_of (drop at line) [] (last-at l) (omega (arith, length-drop at line, until-within 32 (drop at line)))
-        | no l ↦ here_of (take (gap line at) (drop at line)) (words (drop (end + 1) line)) (first-at (omega arith)) (omega (arith, first-size))
-      ]
-
-  pub span_next : (k : ℕ) → end < length line → span_from at (words (drop at line)) (suc k) ≡ span_from (end + 1) (words (drop (end + 1) line)) k
-  unfolding span_from
-  span_next k l =
-      ap (λ (ws : List (List ℕ)). span_from at ws (suc k)) (first-at l) ∙ ap (λ (j : ℕ). span_from j (words (drop (end + 1) line)) k) f
-    where
-      f : at + length (take (gap line at) (drop at line)) + 1 ≡ end + 1
-      f = omega (arith, first-size)
-
-  pub span_none : (k : ℕ) → length line ≤ end → ◌≡◌ {A = Span} (span_from at (words (drop at line)) (suc k)) (record { from = 0; to = 0 })
-  unfolding span_from
-  span_none k l = ap (λ (ws : List (List ℕ)). span_from at ws (suc k)) (last-at l)
-
-abbrev pub At : List ℕ → Span → List ℕ → Type 0
-At line s w = Stands line s.from s.to w
-
--- the first word from a place on
-word-here : (line : List ℕ) (at : ℕ) → at ≤ length line → take (gap line at) (drop at line) ≡ get_or (words (drop at line)) 0 []
-word-here line at h =
-    elim (dec_le (length line) (at + gap line at)) [
-      | yes l ↦
-          take_all (gap line at) (drop at line) (omega (arith, length-drop at line))
-          ∙ ap (λ (ws : List (List ℕ)). get_or ws 0 []) (sym (last-at line at (at + gap line at) h refl l))
-      | no l ↦ ap (λ (ws : List (List ℕ)). get_or ws 0 []) (sym (first-at line at (at + gap line at) h refl (omega arith)))
-    ]
-
--- the word at k stands where its span says
-stands_from : (k : ℕ) (line : List ℕ) (at : ℕ) → at ≤ length line → At line (span_from at (words (drop at line)) k) (get_or (words (drop at line)) k [])
-stands_from zero line at h =
-    let e : at + gap line at - at ≡ gap line at = omega arith in
-    subst₂ (λ (p : Span) (w : List ℕ). At line p w) (span_here line at (at + gap line at) h refl) (word-here line at h)
-    (record {
-      ordered = omega arith;
-      within = omega (arith, length-drop at line, until-within 32 (drop at line));
-      are = ap (λ (n : ℕ). take n (drop at line)) e;
-    })
-stands_from (suc k) line at h =
-    let end = at + gap line at in
-    elim (dec_le (length line) (at + gap line at)) [
-      | yes l ↦
-          subst₂ (λ (p : Span) (w : List ℕ). At line p w) (sym (span_none line at (at + gap line at) h refl k l))
-          (sym (ap (λ (ws : List (List ℕ)). get_or ws (suc k) []) (last-at line at (at + gap line at) h refl l)))
-          (record { ordered = omega arith; within = omega arith; are = refl })
-      | no l ↦
-          subst₂ (λ (p : Span) (w : List ℕ). At line p w) (sym (span_next line at (at + gap line at) h refl k (omega arith)))
-          (sym (ap (λ (ws : List (List ℕ)). get_or ws (suc k) []) (first-at line at (at + gap line at) h refl (omega arith))))
-          (stands_from k line (at + gap line at + 1) (omega arith))
-    ]
-
-pub stands : (line : List ℕ) (k : ℕ) → At line (word_at line k) (get_or (words line) k [])
-unfolding word_at
-stands line k = stands_from k line 0 (omega arith)
-
--- an answer that is the word's span, and that the word stands there
-pub told : (line : List ℕ) (k : ℕ) {s : Span} → s ≡ word_at line k → (s ≡ word_at line k) × At line s (get_or (words line) k [])
-told line k {s} e = (e, subst⁻¹ (λ (p : Span). At line p (get_or (words line) k [])) e (stands line k))
-
--- the code's three ways on, with so many words left to pass
-module _ (line : List ℕ) (at end : ℕ) (h : at ≤ length line) (e : end ≡ at + gap line at) (left : ℕ) where
-  pub none_is : {whole : Span} → 0 < left → length line ≤ end → span_from at (words (drop at line)) left ≡ whole → ◌≡◌ {A = Span} (record { from = 0; to = 0 }) whole
-  none_is p l w = go left p w
-    where
-      go : (left : ℕ) {whole : Span} → 0 < left → span_from at (words (drop at line)) left ≡ whole → ◌≡◌ {A = Span} (record { from = 0; to = 0 }) whole
-      go zero p w = absurd (omega arith)
-      go (suc k) p w = sym (span_none line at end h e k l) ∙ w
-
-  pub next-is : {whole : Span} → 0 < left → end < length line → span_from at (words (drop at line)) left ≡ whole
-      → span_from (end + 1) (words (drop (end + 1) line)) (left - 1) ≡ whole
-  next-is p l w = go left p w
-    where
-      go : (left : ℕ) {whole : Span} → 0 < left → span_from at (words (drop at line)) left ≡ whole → span_from (end + 1) (words (drop (end + 1) line)) (left - 1) ≡ whole
-      go zero p w = absurd (omega arith)
-      go (suc k) p w = rw (sub-one (suc k)) (sym (span_next line at end h e k l) ∙ w)
-
-  pub here-is : {whole : Span} → left ≤ 0 → span_from at (words (drop at line)) left ≡ whole → ◌≡◌ {A = Span} (record { from = at; to = end }) whole
-  here-is p w = go left p w
-    where
-      go : (left : ℕ) {whole : Span} → left ≤ 0 → span_from at (words (drop at line)) left ≡ whole → ◌≡◌ {A = Span} (record { from = at; to = end }) whole
-      go zero p w = span_here line at end h e ∙ w
-      go (suc k) p w = absurd (omega arith)

@@ -1,67 +1,78 @@
--- A piece that was placed was put, and one that was not was not: by the cases of the place before it.
+-- Stores as the library writes them; and a piece that was placed was put, and one that was not was not, by the test of its room.
 use Prim.Native.Nat.{ℕ, ◌+◌, ◌-◌, ◌≤◌, ◌<◌}
+use native.Mathlib.Nat.{zero-add}
 use native.Mathlib.Omega.{arith}
 use mathlib.Core.Bool.{Bool, true, false}
-use mathlib.Core.Path.{◌≡◌, refl, ap, ap₂, ◌∙◌}
-use mathlib.Core.List.{List}
-use lib.ListN.{length}
-use lib.Seq.{sets}
+use mathlib.Core.Path.{◌≡◌, refl, sym, ap, ap₂, ◌∙◌}
+use mathlib.Core.List.{List, [], ◌∷◌, ◌++◌, append_assoc, append-nil}
+use lib.ListN.{length, take, drop, length-drop, drop_of_length-le}
+use lib.Seq.{sets, drop-drop, length-take-le}
+use borrow.Rule.Slice.PartMut.{put_mid}
+use Rattle.std.proofs.lemmas.List.Edits.{sets-eq}
 use lib.Dec.{leb}
 use borrow.Author.Tests.{leb-true, le-leb, lt-leb}
+use Rattle.std.specs.Prelude.{Some, None}
 use Rattle.value.specs.Answer.{pick}
 use Rattle.words.specs.Text.{text, placed, put}
-use Rattle.words.specs.declared.Written.{Written}
-use Rattle.words.specs.declared.Written.TheVariants.{To, Full}
 
-pub has_room : (count from : ℕ) (at : Written) (room : ℕ) → at ≡ To from → from + count ≤ room → To (from + count) ≡ placed count at room
-has_room count from at room e h = rw (e, le-leb (from + count) room h)
+module _ (count at room : ℕ) where
+  pub has_room : at + count ≤ room → Some (at + count) ≡ placed count (Some at) room
+  has_room h = rw (le-leb (at + count) room h)
 
-pub no_room : (count from : ℕ) (at : Written) (room : ℕ) → at ≡ To from → room < from + count → Full ≡ placed count at room
-no_room count from at room e h = rw (e, lt-leb (from + count) room h)
+  pub no_room : room < at + count → None ≡ placed count (Some at) room
+  no_room h = rw (lt-leb (at + count) room h)
 
--- a placed piece of `count` bytes ends at `to`, within the buffer
-pub placed_at : (count : ℕ) (at : Written) (to room : ℕ) → To to ≡ placed count at room → (count ≤ to) × (to ≤ room)
-placed_at count Full to room e = let z : ◌≡◌ {A = ℕ} 0 1 = cc in absurd (omega arith)
-placed_at count (To from) to room e = go (leb (from + count) room) refl e
-  where
-    go : (b : Bool) → leb (from + count) room ≡ b → To to ≡ pick b (To (from + count)) Full → (count ≤ to) × (to ≤ room)
-    go true t h = let s : to ≡ from + count = cc in (omega arith, omega (arith, leb-true (from + count) room t))
-    go false t h = let z : ◌≡◌ {A = ℕ} 0 1 = cc in absurd (omega arith)
+  -- a placed piece of `count` bytes ends at `to`, within the buffer
+  pub placed_at : (to : ℕ) → Some to ≡ placed count (Some at) room → (to ≡ at + count) × (at + count ≤ room)
+  placed_at to e = go (leb (at + count) room) refl e
+    where
+      go : (b : Bool) → leb (at + count) room ≡ b → Some to ≡ pick b (Some (at + count)) None → (to ≡ at + count) × (at + count ≤ room)
+      go true t h = let s : to ≡ at + count = cc in (omega arith, leb-true (at + count) room t)
+      go false t h = let z : ◌≡◌ {A = ℕ} 0 1 = cc in absurd (omega arith)
 
--- a piece that has room: its stores are what `put` says
-pub put-done : (piece : List ℕ) (at : Written) (to : ℕ) (before : List ℕ) → To to ≡ placed (length piece) at (length before)
-    → text (To to) (sets before (to - length piece) piece) ≡ put piece (text at before)
-unfolding put
-put-done piece Full to before e = let z : ◌≡◌ {A = ℕ} 0 1 = cc in absurd (omega arith)
-put-done piece (To from) to before e = go (leb (from + length piece) (length before)) refl e
-  where
-    go : (b : Bool) → leb (from + length piece) (length before) ≡ b → To to ≡ pick b (To (from + length piece)) Full
-        → text (To to) (sets before (to - length piece) piece) ≡ text (pick (leb (from + length piece) (length before)) (To (from + length piece)) Full)
-        (pick (leb (from + length piece) (length before)) (sets before from piece) before)
-    go true t h =
-        let s : to ≡ from + length piece = cc in
-        rw t (ap₂ (λ (k j : ℕ). text (To k) (sets before j piece)) s (omega arith))
-    go false t h = let z : ◌≡◌ {A = ℕ} 0 1 = cc in absurd (omega arith)
+  unplaced : None ≡ placed count (Some at) room → leb (at + count) room ≡ false
+  unplaced e = go (leb (at + count) room) refl e
+    where
+      go : (b : Bool) → leb (at + count) room ≡ b → None ≡ pick b (Some (at + count)) None → b ≡ false
+      go true t h = let z : ◌≡◌ {A = ℕ} 0 1 = cc in absurd (omega arith)
+      go false t h = refl
 
--- a piece that has no room: nothing is stored
-pub put-none : (piece : List ℕ) (at : Written) (before : List ℕ) → Full ≡ placed (length piece) at (length before)
-    → text Full before ≡ put piece (text at before)
-unfolding put
-put-none piece Full before e = refl
-put-none piece (To from) before e = go (leb (from + length piece) (length before)) refl e
-  where
-    go : (b : Bool) → leb (from + length piece) (length before) ≡ b → Full ≡ pick b (To (from + length piece)) Full
-        → text Full before ≡ text (pick (leb (from + length piece) (length before)) (To (from + length piece)) Full)
-        (pick (leb (from + length piece) (length before)) (sets before from piece) before)
-    go true t h = let z : ◌≡◌ {A = ℕ} 0 1 = cc in absurd (omega arith)
-    go false t h = rw t
+-- what a write to a part leaves
+pub part-sets : (at k : ℕ) (before part : List ℕ) → length part ≡ k → at + k ≤ length before → put_mid at k before part ≡ sets before at part
+part-sets at k before part e h =
+    let d : at + k ≡ at + length part = omega arith in
+    ap (λ (l : List ℕ). take at before ++ (part ++ l)) (drop-drop k at before ∙ ap (λ (n : ℕ). drop n before) d)
+    ∙ sym (append_assoc (take at before) part (drop (at + length part) before)) ∙ sym (sets-eq part before at (omega arith))
 
--- the same with the count and the bytes as the code has them
-module _ (piece : List ℕ) (count : ℕ) (at : Written) (before : List ℕ) (e : count ≡ length piece) where
-  pub written : (to : ℕ) (part after : List ℕ) → part ≡ piece → To to ≡ placed count at (length before) → after ≡ sets before (to - count) part
-      → text (To to) after ≡ put piece (text at before)
-  written to part after p h f =
-      ap (text (To to)) (f ∙ ap₂ (λ (k : ℕ) (l : List ℕ). sets before (to - k) l) e p) ∙ put-done piece at to before (rw e at h)
+-- stores from the buffer's start on, and those that are all of it
+pub from_start : (out ys : List ℕ) → length ys ≤ length out → sets out 0 ys ≡ ys ++ drop (length ys) out
+from_start [] ys h = sets-eq ys [] 0 (omega arith) ∙ ap (λ (k : ℕ). ys ++ drop k []) (zero-add (length ys))
+from_start (x ∷ out) ys h = sets-eq ys (x ∷ out) 0 (omega arith) ∙ ap (λ (k : ℕ). ys ++ drop k (x ∷ out)) (zero-add (length ys))
 
-  pub unwritten : Full ≡ placed count at (length before) → text Full before ≡ put piece (text at before)
-  unwritten h = put-none piece at before (rw e at h)
+pub sets-all : (out ys : List ℕ) → length out ≡ length ys → sets out 0 ys ≡ ys
+sets-all out ys e =
+    from_start out ys (omega arith) ∙ ap (λ (l : List ℕ). ys ++ l) (drop_of_length-le out {i = length ys} (omega arith)) ∙ append-nil ys
+
+-- the part that a placed piece is given
+pub part_length : (count at : ℕ) (before : List ℕ) (to : ℕ) → Some to ≡ placed count (Some at) (length before) → length (take (to - at) (drop at before)) ≡ count
+part_length count at before to h =
+    let p = placed_at count at (length before) to h in
+    length-take-le (to - at) (drop at before) (omega (arith, p.0, p.1, length-drop at before)) ∙ omega (arith, p.0)
+
+module _ (piece : List ℕ) (count at : ℕ) (before : List ℕ) (e : count ≡ length piece) where
+  -- a piece that has room: its stores are what `put` says
+  pub written : (to : ℕ) (part : List ℕ) → Some to ≡ placed count (Some at) (length before) → part ≡ piece
+      → text (Some to) (put_mid at (to - at) before part) ≡ put piece (text (Some at) before)
+  unfolding put
+  written to part h f =
+      let p = placed_at count at (length before) to h in
+      let l : at + length piece ≤ length before = omega (arith, p.1) in
+      let s : to ≡ at + length piece = omega (arith, p.0) in
+      let n : length part ≡ to - at = omega (arith, ap length f) in
+      rw (le-leb (at + length piece) (length before) l)
+      (ap₂ (λ (k : ℕ) (bs : List ℕ). text (Some k) bs) s (part-sets at (to - at) before part n (omega arith) ∙ ap (sets before at) f))
+
+  -- a piece that has no room: nothing is stored
+  pub unwritten : None ≡ placed count (Some at) (length before) → text None before ≡ put piece (text (Some at) before)
+  unfolding put
+  unwritten h = rw (ap (λ (k : ℕ). leb (at + k) (length before)) (sym e) ∙ unplaced count at (length before) h)

@@ -4,55 +4,63 @@ use native.Mathlib.Nat.{add-zero}
 use native.Mathlib.Numerals.{add-one}
 use native.Mathlib.Decide.{dec_le, ℕ_discrete}
 use native.Mathlib.Omega.{arith}
-use mathlib.Core.Bool.{true, false}
+use mathlib.Core.Bool.{true}
 use mathlib.Core.Path.{◌≡◌, refl, sym, ap, ◌∙◌}
 use mathlib.Core.List.{List, [], ◌∷◌}
 use lib.ListN.{length, get_or, set, drop, length-drop, get_or-eq_default}
 use lib.Seq.{sets, get_or-drop, drop-drop}
 use lib.Dec.{leb}
 use borrow.Author.Tests.{le-leb, lt-leb, eq-eqb, ne_eqb}
+use Rattle.std.specs.Prelude.{Option, Some, None, Result, Ok, Err}
+use Rattle.std.specs.Option.{ok_or}
+use Rattle.std.specs.Result.{IsErr, IsErrAnd}
 use Rattle.value.specs.Answer.{pick}
 use Rattle.value.specs.Bytes.{same_bytes}
 use Rattle.words.specs.Number.{number}
 use Rattle.words.specs.Words.{words, parts}
 use Rattle.words.specs.Kinds.{name, names, kind_from, kind_read, fits, bits_read}
-use Rattle.words.specs.Pairs.{pair_said, Said, ended, and_more, values_from, Stored}
-use Rattle.words.specs.declared.Read.TheVariants as Read·variants
-use Rattle.words.specs.declared.Pair.{Pair}
-use Rattle.words.specs.declared.Pair.TheVariants.{Value, BadKind, BadBits}
-use Rattle.words.specs.declared.Values.{Values}
-use Rattle.words.specs.declared.Values.TheVariants.{Count, Bad}
+use Rattle.words.specs.Pairs.{Pair, Values, count, bad, pair_said, Said, ended, and_more, values_from, Stored}
+use Rattle.words.specs.declared.PairError.{PairError}
+use Rattle.words.specs.declared.PairError.TheVariants.{Kind, Bits}
 use Rattle.words.proofs.Parting.{some_word, length-onto}
 
 -- ---- one word's bits
 
 module _ (w : List ℕ) (t b : ℕ) where
-  pub in_kind_lem : number w ≡ Read·variants.Number b → fits t b ≡ true → Read·variants.Number b ≡ bits_read t w
+  pub in_kind_lem : number w ≡ Some b → fits t b ≡ true → Some b ≡ bits_read t w
   in_kind_lem e f = rw (e, f)
-
-  pub out_of_kind : number w ≡ Read·variants.Number b → fits t b ≡ false → Read·variants.Bad ≡ bits_read t w
-  out_of_kind e f = rw (e, f)
-
-pub no_bits : (w : List ℕ) (t : ℕ) → number w ≡ Read·variants.Bad → Read·variants.Bad ≡ bits_read t w
-no_bits w t e = rw e
 
 -- ---- one pair
 
+-- a number, or an error in its place
+pub some_of : (o : Option ℕ) (e : PairError) {t : ℕ} → ok_or o e ≡ Ok t → o ≡ Some t
+some_of None e h = let z : ◌≡◌ {A = ℕ} 0 1 = cc in absurd (omega arith)
+some_of (Some n) e h = cc
+
+pub none_of : (o : Option ℕ) (e : PairError) {f : PairError} → ok_or o e ≡ Err f → (o ≡ None) × (f ≡ e)
+none_of None e h = (refl, cc)
+none_of (Some n) e h = let z : ◌≡◌ {A = ℕ} 0 1 = cc in absurd (omega arith)
+
+-- what `?` hands on
+pub err_is : (r : Result (ℕ × ℕ) PairError) {e f : PairError} → IsErr r × IsErrAnd r (λ g. g ≡ e) → e ≡ f → r ≡ Err f
+err_is (Ok x) h i = let z : ◌≡◌ {A = ℕ} 0 1 = cc in absurd (omega arith)
+err_is (Err g) h i = ap Err (h.1 ∙ i)
+
 module _ (k b : List ℕ) where
-  pub pair_value : (t v : ℕ) → kind_read k ≡ Read·variants.Number t → bits_read t b ≡ Read·variants.Number v → Value t v ≡ pair_said k b
+  pub pair_value : (t v : ℕ) → kind_read k ≡ Some t → bits_read t b ≡ Some v → Ok (t, v) ≡ pair_said k b
   unfolding pair_said
   pair_value t v e f = rw (e, f)
 
-  pub pair_no_bits : (t : ℕ) → kind_read k ≡ Read·variants.Number t → bits_read t b ≡ Read·variants.Bad → BadBits ≡ pair_said k b
+  pub pair_no_bits : (t : ℕ) → kind_read k ≡ Some t → bits_read t b ≡ None → Err Bits ≡ pair_said k b
   unfolding pair_said
   pair_no_bits t e f = rw (e, f)
 
-  pub pair_no_kind : kind_read k ≡ Read·variants.Bad → BadKind ≡ pair_said k b
+  pub pair_no_kind : kind_read k ≡ None → Err Kind ≡ pair_said k b
   unfolding pair_said
   pair_no_kind e = rw e
 
 -- a word that can be read is there, and a line has few enough of them to count
-empty_is_no_kind : kind_read [] ≡ Read·variants.Bad
+empty_is_no_kind : kind_read [] ≡ None
 unfolding kind_read kind_from names name same_bytes
 empty_is_no_kind = refl
 
@@ -66,27 +74,27 @@ words-bound (x ∷ xs) =
     ]
 
 module _ (ws : List (List ℕ)) (n : ℕ) where
-  missing : length ws ≤ n → kind_read (get_or ws n []) ≡ Read·variants.Bad
+  missing : length ws ≤ n → kind_read (get_or ws n []) ≡ None
   missing h = ap kind_read (get_or-eq_default ws [] {n = n} h) ∙ empty_is_no_kind
 
-  pub kind_there : (t : ℕ) → kind_read (get_or ws n []) ≡ Read·variants.Number t → n < length ws
+  pub kind_there : (t : ℕ) → kind_read (get_or ws n []) ≡ Some t → n < length ws
   kind_there t e =
       elim (dec_le (length ws) n) [
         | yes h ↦ let m = missing h in let z : ◌≡◌ {A = ℕ} 0 1 = cc in absurd (omega arith)
         | no h ↦ omega arith
       ]
 
-  pub pair_there : (b : List ℕ) {p : Pair} → (p ≡ BadKind → ⊥) → p ≡ pair_said (get_or ws n []) b → n < length ws
+  pub pair_there : (b : List ℕ) {p : Pair} → (p ≡ Err Kind → ⊥) → p ≡ pair_said (get_or ws n []) b → n < length ws
   pair_there b h e =
       elim (dec_le (length ws) n) [
         | yes l ↦ absurd (h (e ∙ sym (pair_no_kind (get_or ws n []) b (missing l))))
         | no l ↦ omega arith
       ]
 
-pub value_no_bad : {t v : ℕ} {p : Pair} → p ≡ Value t v → p ≡ BadKind → ⊥
+pub value_no_bad : {t v : ℕ} {p : Pair} → p ≡ Ok (t, v) → p ≡ Err Kind → ⊥
 value_no_bad {t} {v} {p} e f = let z : ◌≡◌ {A = ℕ} 0 1 = cc in omega arith
 
-pub bits_no_bad : {p : Pair} → p ≡ BadBits → p ≡ BadKind → ⊥
+pub bits_no_bad : {p : Pair} → p ≡ Err Bits → p ≡ Err Kind → ⊥
 bits_no_bad {p} e f = let z : ◌≡◌ {A = ℕ} 0 1 = cc in omega arith
 
 -- ---- pairs to the line's end
@@ -102,7 +110,7 @@ leb_drop m n =
 next : (room i n : ℕ) (ws : List (List ℕ)) → i < room
     → values_from (room - i) i n (drop n ws)
     ≡ and_more (pair_said (get_or ws n []) (get_or ws (n + 1) [])) n
-    (pick (leb (length ws) (n + 2)) (ended (Count (i + 1))) (values_from (room - (i + 1)) (i + 1) (n + 2) (drop (n + 2) ws)))
+    (pick (leb (length ws) (n + 2)) (ended (count (i + 1))) (values_from (room - (i + 1)) (i + 1) (n + 2) (drop (n + 2) ws)))
 unfolding values_from
 next room i n ws h =
     let e : room - i ≡ suc (room - (i + 1)) = omega arith in
@@ -121,38 +129,31 @@ module _ {whole : Said} {i : ℕ} {tags₀ tags bits₀ bits : List ℕ} where
   pub finish : {v : Values} → Owed (ended v) whole i tags₀ tags bits₀ bits → Stored whole v tags₀ tags bits₀ bits
   finish o = record { answer = o.end; kinds = o.kinds; values = o.values }
 
-  advance : {s : Said} {t v : ℕ} (n : ℕ) → Owed (and_more (Value t v) n s) whole i tags₀ tags bits₀ bits → Owed s whole (i + 1) tags₀ (set tags i t) bits₀ (set bits i v)
+  advance : {s : Said} {t v : ℕ} (n : ℕ) → Owed (and_more (Ok (t, v)) n s) whole i tags₀ tags bits₀ bits → Owed s whole (i + 1) tags₀ (set tags i t) bits₀ (set bits i v)
   advance n o = record { end = o.end; kinds = rw add-one o.kinds; values = rw add-one o.values }
-
--- nothing is read yet
-pub owed_all : (room limit first : ℕ) (ws : List (List ℕ)) (tags bits : List ℕ) → room ≡ limit
-    → Owed (values_from (room - 0) 0 first ws) (values_from limit 0 first ws) 0 tags tags bits bits
-owed_all room limit first ws tags bits e =
-    let z : room - 0 ≡ limit = omega arith in
-    rw z (record { end = refl; kinds = refl; values = refl })
 
 -- the code's ways on at the words from n on
 module _ (room i n : ℕ) (ws : List (List ℕ)) {whole : Said} {tags₀ tags bits₀ bits : List ℕ}
     (o : Owed (values_from (room - i) i n (drop n ws)) whole i tags₀ tags bits₀ bits) where
   turned : {p : Pair} → i < room → p ≡ pair_said (get_or ws n []) (get_or ws (n + 1) [])
-      → Owed (and_more p n (pick (leb (length ws) (n + 2)) (ended (Count (i + 1))) (values_from (room - (i + 1)) (i + 1) (n + 2) (drop (n + 2) ws)))) whole i tags₀ tags bits₀ bits
+      → Owed (and_more p n (pick (leb (length ws) (n + 2)) (ended (count (i + 1))) (values_from (room - (i + 1)) (i + 1) (n + 2) (drop (n + 2) ws)))) whole i tags₀ tags bits₀ bits
   turned h e = rw e (rw (next room i n ws h) at o)
 
-  pub kind-bad : i < room → BadKind ≡ pair_said (get_or ws n []) (get_or ws (n + 1) []) → Stored whole (Bad n) tags₀ tags bits₀ bits
+  pub kind-bad : i < room → Err Kind ≡ pair_said (get_or ws n []) (get_or ws (n + 1) []) → Stored whole (bad n) tags₀ tags bits₀ bits
   kind-bad h e = finish (turned h e)
 
-  pub bits-bad : i < room → BadBits ≡ pair_said (get_or ws n []) (get_or ws (n + 1) []) → Stored whole (Bad (n + 1)) tags₀ tags bits₀ bits
+  pub bits-bad : i < room → Err Bits ≡ pair_said (get_or ws n []) (get_or ws (n + 1) []) → Stored whole (bad (n + 1)) tags₀ tags bits₀ bits
   bits-bad h e = finish (turned h e)
 
-  pub all_read : {t v : ℕ} → i < room → Value t v ≡ pair_said (get_or ws n []) (get_or ws (n + 1) []) → length ws ≤ n + 2
-      → Stored whole (Count (i + 1)) tags₀ (set tags i t) bits₀ (set bits i v)
+  pub all_read : {t v : ℕ} → i < room → Ok (t, v) ≡ pair_said (get_or ws n []) (get_or ws (n + 1) []) → length ws ≤ n + 2
+      → Stored whole (count (i + 1)) tags₀ (set tags i t) bits₀ (set bits i v)
   all_read h e l = finish (rw (le-leb (length ws) (n + 2) l) at (advance n (turned h e)))
 
-  pub more_left : {t v : ℕ} → i < room → Value t v ≡ pair_said (get_or ws n []) (get_or ws (n + 1) []) → n + 2 < length ws
+  pub more_left : {t v : ℕ} → i < room → Ok (t, v) ≡ pair_said (get_or ws n []) (get_or ws (n + 1) []) → n + 2 < length ws
       → Owed (values_from (room - (i + 1)) (i + 1) (n + 2) (drop (n + 2) ws)) whole (i + 1) tags₀ (set tags i t) bits₀ (set bits i v)
   more_left h e l = rw (lt-leb (length ws) (n + 2) l) at (advance n (turned h e))
 
-  pub no_room : room ≤ i → Stored whole (Bad n) tags₀ tags bits₀ bits
+  pub no_room : room ≤ i → Stored whole (bad n) tags₀ tags bits₀ bits
   unfolding values_from
   no_room h =
       let e : room - i ≡ 0 = omega arith in

@@ -9,12 +9,12 @@ use mathlib.Core.List.{List, [], ◌∷◌, ◌++◌}
 use lib.ListN.{length, length-append, get_or-eq_default}
 use lib.Dec.{leb}
 use borrow.Author.Tests.{lt-ltb, le-ltb, leb-true}
+use Rattle.std.specs.Prelude.{Some}
 use Rattle.words.specs.Number.{places_within, places, decimal}
 use Rattle.words.specs.Hex.{pairs_of, hex_of}
 use Rattle.words.specs.Kinds.{name, names, name_of}
 use Rattle.words.specs.Text.{Text}
 use Rattle.words.specs.Room.{size, HasRoom}
-use Rattle.words.specs.declared.Written.TheVariants.{To}
 use Rattle.words.proofs.Digits.{length-decimal, Held, held-less, last-place}
 use Rattle.words.proofs.Names.{names-count}
 use Rattle.words.proofs.Table.{every, entry}
@@ -92,4 +92,4 @@ joined_size (p ∷ ps) = omega (arith, length-append p (joined ps), joined_size 
 -- a buffer that is as long as the pieces has room for them
 pub roomy : (ps : List (List ℕ)) (out : List ℕ) (most : ℕ) → size ps ≤ most → most ≤ length out → HasRoom ps out
 roomy ps out most h g =
-    ap (λ (t : Text). t.place) (has_room ps 0 out (omega (arith, joined_size ps))) ∙ ap To (omega (arith, joined_size ps))
+    ap (λ (t : Text). t.place) (has_room ps 0 out (omega (arith, joined_size ps))) ∙ ap Some (omega (arith, joined_size ps))

@@ -3,12 +3,11 @@
 use Prim.Native.Nat.{ℕ}
 use mathlib.Core.Path.{◌≡◌, sym, ap, ◌∙◌}
 use mathlib.Core.List.{List}
+use Rattle.std.specs.Prelude.{Option}
 use Rattle.words.specs.Text.{Text, text}
-use Rattle.words.specs.Pairs.{Said, Stored}
-use Rattle.words.specs.declared.Written.{Written}
-use Rattle.words.specs.declared.Values.{Values}
+use Rattle.words.specs.Pairs.{Values, Said, Stored}
 
-pub written : {t : Text} {r s : Written} {out out' : List ℕ} → text r out ≡ t → text s out' ≡ t → (r ≡ s) × (out ≡ out')
+pub written : {t : Text} {r s : Option ℕ} {out out' : List ℕ} → text r out ≡ t → text s out' ≡ t → (r ≡ s) × (out ≡ out')
 written e f = (ap (λ (t : Text). t.place) (e ∙ sym f), ap (λ (t : Text). t.bytes) (e ∙ sym f))
 
 pub values : {said : Said} {r s : Values} {tags₀ tags tags' bits₀ bits bits' : List ℕ} → Stored said r tags₀ tags bits₀ bits → Stored said s tags₀ tags' bits₀ bits'

@@ -8,8 +8,8 @@ use mathlib.Core.List.{List, [], ◌∷◌, ◌++◌}
 use lib.ListN.{length, length-append}
 use lib.Seq.{sets, length-sets}
 use borrow.Author.Tests.{le-leb, lt-leb}
+use Rattle.std.specs.Prelude.{Some, None}
 use Rattle.words.specs.Text.{Text, text, put, puts}
-use Rattle.words.specs.declared.Written.TheVariants.{To, Full}
 use Rattle.value.proofs.Stores.{sets-append}
 
 -- the bytes of all pieces
@@ -18,31 +18,35 @@ joined [] = []
 joined (p ∷ ps) = p ++ joined ps
 
 module _ (p : List ℕ) (at : ℕ) (before : List ℕ) where
-  put-fits : at + length p ≤ length before → put p (text (To at) before) ≡ text (To (at + length p)) (sets before at p)
+  put-fits : at + length p ≤ length before → put p (text (Some at) before) ≡ text (Some (at + length p)) (sets before at p)
   unfolding put
   put-fits h = rw (le-leb (at + length p) (length before) h)
 
-  put_full : length before < at + length p → put p (text (To at) before) ≡ text Full before
+  put_full : length before < at + length p → put p (text (Some at) before) ≡ text None before
   unfolding put
   put_full h = rw (lt-leb (at + length p) (length before) h)
 
 pub has_room : (ps : List (List ℕ)) (at : ℕ) (before : List ℕ) → at + length (joined ps) ≤ length before
-    → puts ps (text (To at) before) ≡ text (To (at + length (joined ps))) (sets before at (joined ps))
-has_room [] at before h = ap (λ (k : ℕ). text (To k) before) (sym (add-zero at))
+    → puts ps (text (Some at) before) ≡ text (Some (at + length (joined ps))) (sets before at (joined ps))
+has_room [] at before h = ap (λ (k : ℕ). text (Some k) before) (sym (add-zero at))
 has_room (p ∷ ps) at before h =
     let l = length-append p (joined ps) in
     let e : at + length p + length (joined ps) ≡ at + length (p ++ joined ps) = omega arith in
     ap (puts ps) (put-fits p at before (omega arith))
     ∙ has_room ps (at + length p) (sets before at p) (omega (arith, length-sets before at p))
-    ∙ ap₂ (λ (k : ℕ) (bs : List ℕ). text (To k) bs) e (sym (sets-append before at p (joined ps)))
+    ∙ ap₂ (λ (k : ℕ) (bs : List ℕ). text (Some k) bs) e (sym (sets-append before at p (joined ps)))
 
-full-stays : (ps : List (List ℕ)) (before : List ℕ) → puts ps (text Full before) ≡ text Full before
+-- nothing is put once a piece had no room
+pub none_stays : (p : List ℕ) (before : List ℕ) → put p (text None before) ≡ text None before
 unfolding put
-full-stays [] before = refl
-full-stays (p ∷ ps) before = full-stays ps before
+none_stays p before = refl
+
+pub nones_stay : (ps : List (List ℕ)) (before : List ℕ) → puts ps (text None before) ≡ text None before
+nones_stay [] before = refl
+nones_stay (p ∷ ps) before = ap (puts ps) (none_stays p before) ∙ nones_stay ps before
 
 pub no_room : (ps : List (List ℕ)) (at : ℕ) (before : List ℕ) → at ≤ length before → length before < at + length (joined ps)
-    → (puts ps (text (To at) before)).place ≡ Full
+    → (puts ps (text (Some at) before)).place ≡ None
 no_room [] at before h g = absurd (omega arith)
 no_room (p ∷ ps) at before h g =
     let l = length-append p (joined ps) in
@@ -50,5 +54,5 @@ no_room (p ∷ ps) at before h g =
       | yes f ↦
           ap (λ (t : Text). (puts ps t).place) (put-fits p at before f)
           ∙ no_room ps (at + length p) (sets before at p) (omega (arith, length-sets before at p)) (omega (arith, length-sets before at p))
-      | no f ↦ ap (λ (t : Text). (puts ps t).place) (put_full p at before (omega arith)) ∙ ap (λ (t : Text). t.place) (full-stays ps before)
+      | no f ↦ ap (λ (t : Text). (puts ps t).place) (put_full p at before (omega arith)) ∙ ap (λ (t : Text). t.place) (nones_stay ps before)
     ]

@@ -1,9 +1,9 @@
 -- "HEX is pairs of hex digits, either case read, lower case written, `-` for no bytes."
-use Rattle.std.specs.Prelude.{ℕ, ◌+◌, ◌-◌, ◌*◌, ◌/◌, ◌%◌, Bool, true, ◌&&◌, ◌||◌, List, [], ◌∷◌, length, get_or, ltb, leb, eqb}
+use Rattle.std.specs.Prelude.{ℕ, ◌+◌, ◌-◌, ◌*◌, ◌/◌, ◌%◌, Bool, true, ◌&&◌, ◌||◌, Result, Ok, Err, List, [], ◌∷◌, length, get_or, ltb, leb, eqb}
 use Rattle.std.proofs.lemmas.List.Edits.{sets}
 use Rattle.value.specs.Answer.{pick}
-use Rattle.words.specs.declared.HexRead.{HexRead}
-use Rattle.words.specs.declared.HexRead.TheVariants.{Bytes, Long, Bad}
+use Rattle.words.specs.declared.HexError.{HexError}
+use Rattle.words.specs.declared.HexError.TheVariants.{Long, Bad}
 
 -- ---- reading
 
@@ -33,8 +33,8 @@ bytes_said (a ∷ []) = []
 bytes_said (a ∷ b ∷ w) = (nibble a * 16 + nibble b) ∷ bytes_said w
 
 -- what reading a word into a buffer of so many bytes answers, and what it leaves there
-unfoldable pub hex_answer : List ℕ → (room : ℕ) → HexRead
-hex_answer w room = pick (is_hex w) (pick (leb (length (bytes_said w)) room) (Bytes (length (bytes_said w))) Long) Bad
+unfoldable pub hex_answer : List ℕ → (room : ℕ) → Result ℕ HexError
+hex_answer w room = pick (is_hex w) (pick (leb (length (bytes_said w)) room) (Ok (length (bytes_said w))) (Err Long)) (Err Bad)
 
 unfoldable pub hex_buffer : List ℕ → List ℕ → List ℕ
 hex_buffer w before = pick (is_hex w && leb (length (bytes_said w)) (length before)) (sets before 0 (bytes_said w)) before

@@ -1,15 +1,13 @@
 -- "KIND is a name of `IrValue` .., BITS its bits as an unsigned number (I8 -1 is 255); bits that do not fit the kind cannot be read, except
 -- that any Char below 2^32 is passed on".
-use Rattle.std.specs.Prelude.{ℕ, suc, ◌-◌, ◌^◌, Bool, List, [], ◌∷◌, ◌++◌, map, length, get_or, drop, replicate, ltb, leb}
+use Rattle.std.specs.Prelude.{ℕ, suc, ◌^◌, Bool, Option, Some, None, List, [], ◌∷◌, map, get_or, drop, ltb}
 use Rattle.value.specs.Answer.{pick}
-use Rattle.value.specs.Value.{Kind, bool, u8, u16, u32, u64, i8, i16, i32, i64, f32, f64, char, asn, pointer, tag, width}
+use Rattle.value.specs.Value.{Kind, bool, u8, u16, u32, u64, i8, i16, i32, i64, f32, f64, char, asn, pointer, width}
 use Rattle.value.specs.Bytes.{same_bytes}
 use Rattle.value.specs.Value.{same as same_kind}
 use Rattle.value.specs.Tags.{kinds}
 use Rattle.words.specs.Ascii.{ascii}
 use Rattle.words.specs.Number.{number}
-use Rattle.words.specs.declared.Read.{Read}
-use Rattle.words.specs.declared.Read.TheVariants.{Number, Bad}
 
 -- ---- names
 
@@ -38,13 +36,13 @@ unfoldable pub name_of : ℕ → List ℕ
 name_of t = get_or names t []
 
 -- the tag of the first of these names that a word is
-unfoldable pub kind_from : List ℕ → (tag : ℕ) → List (List ℕ) → Read
-kind_from w t [] = Bad
+unfoldable pub kind_from : List ℕ → (tag : ℕ) → List (List ℕ) → Option ℕ
+kind_from w t [] = None
 kind_from w t (n ∷ ns) =
     let more = kind_from w (suc t) ns in
-    pick (same_bytes w n) (Number t) more
+    pick (same_bytes w n) (Some t) more
 
-unfoldable pub kind_read : List ℕ → Read
+unfoldable pub kind_read : List ℕ → Option ℕ
 kind_read w = kind_from w 1 (drop 1 names)
 
 -- ---- bits
@@ -60,20 +58,10 @@ limits = 0 ∷ map limit_of kinds
 unfoldable pub fits : (tag bits : ℕ) → Bool
 fits t b = ltb b (get_or limits t 0)
 
-abbrev pub fitting : ℕ → Read → Read
-fitting t (Number b) = pick (fits t b) (Number b) Bad
-fitting t Bad = Bad
+abbrev pub fitting : ℕ → Option ℕ → Option ℕ
+fitting t (Some b) = pick (fits t b) (Some b) None
+fitting t None = None
 
 -- the bits that a word says, for the kind with this tag
-abbrev pub bits_read : ℕ → List ℕ → Read
+abbrev pub bits_read : ℕ → List ℕ → Option ℕ
 bits_read t w = fitting t (number w)
-
--- ---- the names as a table of eight bytes each, the first the name's length
-
-unfoldable pub rows : List (List ℕ) → List ℕ
-rows [] = []
-rows (n ∷ ns) = length n ∷ n ++ replicate (7 - length n) 0 ++ rows ns
-
--- the row of a tag: the first, which is empty, where there is no such kind
-abbrev pub row_of : ℕ → ℕ
-row_of t = pick (leb t (tag pointer)) t 0

@@ -1,8 +1,6 @@
 -- "Numbers are decimal digits, no sign, no leading zero, at most 2^64 - 1."
-use Rattle.std.specs.Prelude.{ℕ, zero, suc, ◌+◌, ◌-◌, ◌*◌, ◌/◌, ◌%◌, ◌^◌, Bool, true, not, ◌&&◌, ◌||◌, List, [], ◌∷◌, ◌++◌, length, get_or, ltb, leb, eqb}
+use Rattle.std.specs.Prelude.{ℕ, zero, suc, ◌+◌, ◌-◌, ◌*◌, ◌/◌, ◌%◌, ◌^◌, Bool, true, Option, Some, None, not, ◌&&◌, ◌||◌, List, [], ◌∷◌, ◌++◌, length, get_or, ltb, leb, eqb}
 use Rattle.value.specs.Answer.{pick}
-use Rattle.words.specs.declared.Read.{Read}
-use Rattle.words.specs.declared.Read.TheVariants.{Number, Bad}
 
 -- ---- reading
 
@@ -20,23 +18,23 @@ value_after n [] = n
 value_after n (b ∷ bs) = value_after (n * 10 + (b - 48)) bs
 
 -- the number that digits say, after digits that say n; at most 2^64 - 1
-unfoldable pub digits_say : ℕ → List ℕ → Read
-digits_say n w = pick (all_digits w && ltb (value_after n w) (2 ^ 64)) (Number (value_after n w)) Bad
+unfoldable pub digits_say : ℕ → List ℕ → Option ℕ
+digits_say n w = pick (all_digits w && ltb (value_after n w) (2 ^ 64)) (Some (value_after n w)) None
 
 -- a first digit, which is '0' only where it is the last too
 abbrev pub is_led : List ℕ → Bool
 is_led w = ltb 0 (length w) && (eqb (length w) 1 || not (eqb (get_or w 0 0) 48))
 
 -- the number that a word says
-unfoldable pub number : List ℕ → Read
-number w = pick (is_led w) (digits_say 0 w) Bad
+unfoldable pub number : List ℕ → Option ℕ
+number w = pick (is_led w) (digits_say 0 w) None
 
 -- the same, where it is at most `most`
-abbrev pub bounded : ℕ → Read → Read
-bounded most (Number n) = pick (leb n most) (Number n) Bad
-bounded most Bad = Bad
+abbrev pub bounded : ℕ → Option ℕ → Option ℕ
+bounded most (Some n) = pick (leb n most) (Some n) None
+bounded most None = None
 
-abbrev pub up_to : ℕ → List ℕ → Read
+abbrev pub up_to : ℕ → List ℕ → Option ℕ
 up_to most w = bounded most (number w)
 
 -- ---- writing

@@ -1,7 +1,6 @@
 -- The room that a text takes.
-use Rattle.std.specs.Prelude.{ℕ, ◌+◌, ◌≡◌, List, [], ◌∷◌, length}
+use Rattle.std.specs.Prelude.{ℕ, ◌+◌, ◌≡◌, Some, List, [], ◌∷◌, length}
 use Rattle.words.specs.Text.{text, puts}
-use Rattle.words.specs.declared.Written.TheVariants.{To}
 
 -- how many bytes pieces have
 abbrev pub size : List (List ℕ) → ℕ
@@ -10,4 +9,4 @@ size (p ∷ ps) = length p + size ps
 
 -- pieces have room in a buffer: from its start on they are put to the last, and end where their bytes do
 abbrev pub HasRoom : List (List ℕ) → (out : List ℕ) → Type 0
-HasRoom ps out = (puts ps (text (To 0) out)).place ≡ To (size ps)
+HasRoom ps out = (puts ps (text (Some 0) out)).place ≡ Some (size ps)

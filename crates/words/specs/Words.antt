@@ -1,7 +1,6 @@
 -- "Words are parted by exactly one space; a line ends with LF, the last one may end with the input."
 use Rattle.std.specs.Prelude.{ℕ, zero, suc, ◌+◌, ◌-◌, ◌≤◌, ◌≡◌, List, [], ◌∷◌, length, take, drop, eqb}
 use Rattle.value.specs.Answer.{pick}
-use Rattle.words.specs.declared.Span.{Span}
 
 -- how many bytes stand before the first b: all of them where there is none
 unfoldable pub until : ℕ → List ℕ → ℕ
@@ -29,6 +28,11 @@ words line = parts 32 ([] ∷ []) line
 -- the lines of an input: nothing after the last LF is no line
 unfoldable pub lines : List ℕ → List (List ℕ)
 lines input = parts 10 [] input
+
+-- where a word stands in its line: from its first byte to the place after its last
+pub record Span : Type 0 where
+  pub from : ℕ
+  pub to : ℕ
 
 -- where the word at k stands, counted from 0, in words from `at` on, each with one space after it; nowhere is 0 to 0
 unfoldable pub span_from : (at : ℕ) → List (List ℕ) → ℕ → Span

@@ -1,82 +1,47 @@
 // The names of the kinds, and which bits fit them.
-ghost use Rattle.std.specs.Prelude.{◌≡◌};
+ghost use Rattle.std.specs.Prelude.{◌≡◌, Some};
 ghost use Rattle.words.specs.Text.{text, put};
-ghost use Rattle.words.specs.Kinds.{names as Kinds·names};
-ghost use Rattle.words.specs.Kinds.{rows, row_of, name_of, kind_read};
+ghost use Rattle.words.specs.Kinds.{name_of, kind_read};
 ghost use Rattle.words.specs.Kinds.{fits as Kinds·fits};
-ghost use Rattle.value.specs.Bytes.{same_bytes};
 
 use crate::text::write_bytes;
 use crate::word::same;
-use crate::{Read, Written};
 use value::IrType;
 
-// The names in the order of their tags, 1 to 14: eight bytes each, the first its length.
-const NAMES: [u8; 120] = [
-    0, 0, 0, 0, 0, 0, 0, 0, 4, b'B', b'o', b'o', b'l', 0, 0, 0, 2, b'U', b'8', 0, 0, 0, 0, 0, 3,
-    b'U', b'1', b'6', 0, 0, 0, 0, 3, b'U', b'3', b'2', 0, 0, 0, 0, 3, b'U', b'6', b'4', 0, 0, 0, 0,
-    2, b'I', b'8', 0, 0, 0, 0, 0, 3, b'I', b'1', b'6', 0, 0, 0, 0, 3, b'I', b'3', b'2', 0, 0, 0, 0,
-    3, b'I', b'6', b'4', 0, 0, 0, 0, 3, b'F', b'3', b'2', 0, 0, 0, 0, 3, b'F', b'6', b'4', 0, 0, 0,
-    0, 4, b'C', b'h', b'a', b'r', 0, 0, 0, 3, b'A', b's', b'n', 0, 0, 0, 0, 7, b'P', b'o', b'i',
-    b'n', b't', b'e', b'r',
+// The names in the order of their tags, 1 to 14.
+const NAMES: [&[u8]; 15] = [
+    b"", b"Bool", b"U8", b"U16", b"U32", b"U64", b"I8", b"I16", b"I32", b"I64", b"F32", b"F64",
+    b"Char", b"Asn", b"Pointer",
 ];
 
-fn names() -> [u8; 120]
-    ensures { result ≡ rows Kinds·names }
-{
-    NAMES
-}
-
-fn row(tag: u64) -> usize
-    ensures { result ≡ row_of tag }
+// The name of the kind with this tag: no byte where there is no such kind.
+fn name(tag: u64) -> &'static [u8]
+    ensures { result.now ≡ name_of tag }
 {
     if tag <= IrType::POINTER_TAG {
-        tag as usize
+        NAMES[tag as usize]
     } else {
-        0
+        b""
     }
-}
-
-fn size(b: u8) -> usize
-    ensures { result ≡ b }
-{
-    b as usize
-}
-
-// Whether a word is the name of the kind with this tag.
-fn is_kind(word: &[u8], tag: u64) -> bool
-    ensures { result ≡ same_bytes word.now (name_of tag) }
-{
-    let table = names();
-    let head = row(tag) * 8;
-    let from = head + 1;
-    let to = from + size(table[head]);
-    same(word, &table[from..to])
 }
 
 // The tag of the kind that a word names.
-pub fn read_kind(word: &[u8]) -> Read
+pub fn read_kind(word: &[u8]) -> Option<u64>
     ensures { result ≡ kind_read word.now }
 {
-    let mut tag = IrType::BOOL_TAG;
-    while tag <= IrType::POINTER_TAG {
-        if is_kind(word, tag) {
-            return Read::Number(tag);
+    for tag in IrType::BOOL_TAG..=IrType::POINTER_TAG {
+        if same(word, name(tag)) {
+            return Some(tag);
         }
-        tag += 1;
     }
-    Read::Bad
+    None
 }
 
 // Writes the name of the kind with this tag: no byte where there is no such kind.
-pub fn write_kind(out: &mut [u8], at: Written, tag: u64) -> Written
-    ensures { text result out.new ≡ put (name_of tag) (text at out.old) }
+pub fn write_kind(out: &mut [u8], at: usize, tag: u64) -> Option<usize>
+    ensures { text result out.new ≡ put (name_of tag) (text (Some at) out.old) }
 {
-    let table = names();
-    let head = row(tag) * 8;
-    let from = head + 1;
-    let to = from + size(table[head]);
-    write_bytes(out, at, &table[from..to])
+    write_bytes(out, at, name(tag))
 }
 
 // The largest bits of each kind, in the order of their tags.
@@ -99,6 +64,7 @@ const MOST: [u64; 15] = [
 ];
 
 // Whether bits fit the kind with this tag.
+#[tactic(auto, using(crate::proofs::Names::no_kind, crate::proofs::Names::no_such_kind))]
 pub fn fits(tag: u64, bits: u64) -> bool
     ensures { result ≡ Kinds·fits tag bits }
 {
@@ -108,6 +74,5 @@ pub fn fits(tag: u64, bits: u64) -> bool
     if IrType::POINTER_TAG < tag {
         return false;
     }
-    let place = tag as usize;
-    bits <= MOST[place]
+    bits <= MOST[tag as usize]
 }

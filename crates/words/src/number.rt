@@ -1,94 +1,58 @@
 // Decimal numbers of 64 bits.
-ghost use Rattle.std.specs.Prelude.{◌≡◌, ◌+◌, ◌≤◌, length};
-ghost use Rattle.std.proofs.lemmas.List.Edits.{sets};
+ghost use Rattle.std.specs.Prelude.{◌≡◌, Some, length};
 ghost use Rattle.words.specs.Text.{text, put};
 ghost use Rattle.words.specs.Number.{number, digits_say, digits, places, decimal};
 
 use crate::text::place;
-use crate::{Read, Written};
-
-fn wide(x: u8) -> u64
-    ensures { result ≡ x }
-{
-    x as u64
-}
 
 // What all of a word's bytes say as digits.
-fn read_digits(word: &[u8]) -> Read
+fn read_digits(word: &[u8]) -> Option<u64>
     ensures { result ≡ digits_say 0 word.now }
 {
     let mut n: u64 = 0;
-    let mut i = 0;
-    while i < word.len() {
-        let b = wide(word[i]);
-        if b < 48 {
-            return Read::Bad;
+    for b in word {
+        if !b.is_ascii_digit() {
+            return None;
         }
-        if 57 < b {
-            return Read::Bad;
-        }
-        if (18446744073709551615 - (b - 48)) / 10 < n {
-            return Read::Bad;
-        }
-        n = n * 10 + (b - 48);
-        i += 1;
+        n = n.checked_mul(10)?.checked_add(u64::from(*b - b'0'))?;
     }
-    Read::Number(n)
+    Some(n)
 }
 
 // The number that a word says.
 #[tactic(auto, using(crate::proofs::Digits::none_led, crate::proofs::Digits::zero_led, crate::proofs::Digits::one_led, crate::proofs::Digits::more_led))]
-pub fn read_number(word: &[u8]) -> Read
+pub fn read_number(word: &[u8]) -> Option<u64>
     ensures { result ≡ number word.now }
 {
-    if word.len() == 0 {
-        return Read::Bad;
+    match word {
+        [] | [b'0', _, ..] => None,
+        _ => read_digits(word),
     }
-    if word.len() != 1 {
-        if word[0] == b'0' {
-            return Read::Bad;
-        }
-    }
-    read_digits(word)
 }
 
 // How many digits a number takes.
 fn count_digits(n: u64) -> usize
     ensures { result ≡ places n }
 {
-    let mut count: usize = 1;
-    let mut left = n;
-    while 10 <= left {
-        left = left / 10;
-        count += 1;
-    }
-    count
+    n.checked_ilog10().map_or(1, |k| k as usize + 1)
 }
 
-// The last `count` digits of a number, from `from` on.
-fn spell(out: &mut [u8], from: usize, count: usize, n: u64)
-    requires { from + count ≤ length out.old }
-    ensures { out.new ≡ sets out.old from (digits count n) }
+// The last digits of a number, as many as there are places.
+fn spell(out: &mut [u8], n: u64)
+    ensures { out.new ≡ digits (length out.old) n }
 {
-    let mut i = count;
     let mut left = n;
-    while 0 < i {
-        i -= 1;
-        out[from + i] = (48 + left % 10) as u8;
-        left = left / 10;
+    for i in (0..out.len()).rev() {
+        out[i] = b'0' + (left % 10) as u8;
+        left /= 10;
     }
 }
 
 // Writes a number's digits, or nothing where they have no room.
-pub fn write_number(out: &mut [u8], at: Written, n: u64) -> Written
-    ensures { text result out.new ≡ put (decimal n) (text at out.old) }
+pub fn write_number(out: &mut [u8], at: usize, n: u64) -> Option<usize>
+    ensures { text result out.new ≡ put (decimal n) (text (Some at) out.old) }
 {
-    let count = count_digits(n);
-    match place(out, at, count) {
-        Written::To(to) => {
-            spell(out, to - count, count, n);
-            Written::To(to)
-        }
-        Written::Full => Written::Full,
-    }
+    let to = place(out, at, count_digits(n))?;
+    spell(&mut out[at..to], n);
+    Some(to)
 }

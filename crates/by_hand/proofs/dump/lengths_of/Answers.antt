@@ -12,4 +12,4 @@ unfolding lengths_from
 loop-k-init c = (refl, refl, omega arith)
 
 pub loop-k-preserved : goal.loop-k-preserved
-loop-k-preserved c = (one-length c.args.bounds.now c.loop-k.lengths c.loop-k.k c.difference.result (omega arith) c.loop-k.invariant.0 (c.difference.ensures ∙ ap₂ (λ (m n : ℕ). m - n) c.word_at.ensures c.word_at-in-loop-k.ensures), length-set c.loop-k.lengths c.loop-k.k c.difference.result ∙ c.loop-k.invariant.1, omega arith)
+loop-k-preserved c = (one-length c.args.bounds.now c.loop-k.lengths c.loop-k.k c.saturating_sub.result (omega arith) c.loop-k.invariant.0 (c.saturating_sub.ensures ∙ ap₂ (λ (m n : ℕ). m - n) c.word_at.ensures c.word_at-in-loop-k.ensures), length-set c.loop-k.lengths c.loop-k.k c.saturating_sub.result ∙ c.loop-k.invariant.1, omega arith)

@@ -1,5 +1,5 @@
 -- `dump::lengths_of` meets its contract: the lengths so far are those of the first allocations.
-use Prim.Native.Nat.{◌-◌, ◌≤◌}
+use Prim.Native.Nat.{◌≤◌}
 use mathlib.Core.Path.{◌≡◌}
 use lib.ListN.{length, take}
 use Rattle.by_hand.specs.State.{lengths_from}
@@ -7,6 +7,3 @@ use Rattle.by_hand.proofs.dump.lengths_of.Given as goal
 
 abbrev pub invariant-loop-k : goal.invariant-loop-k
 invariant-loop-k l = (take l.k l.lengths ≡ lengths_from l.k l.bounds 0) × (length l.lengths ≡ 512) × (l.k ≤ 512)
-
-abbrev pub decreases-loop-k : goal.decreases-loop-k
-decreases-loop-k l = 512 - l.k

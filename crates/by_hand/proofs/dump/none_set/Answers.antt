@@ -1,13 +1,15 @@
--- `dump::none_set` meets its contract: the variables that are left answer for all.
-use mathlib.Core.Path.{sym, ◌∙◌}
-use Rattle.by_hand.proofs.Showing.{one_set, not_set, all-unset}
+-- `dump::none_set` meets its contract: `all` over the variables answers as the definition does.
+use Prim.Native.Nat.{ℕ, ◌*◌}
+use mathlib.Core.Path.{refl, ◌∙◌}
+use lib.ListN.{get_or}
+use lib.Dec.{eqb}
+use Rattle.std.proofs.Common.{rules, tests}
+use Rattle.std.proofs.lemmas.Iterator.{YieldsList-from_range}
+use Rattle.std.proofs.lemmas.Iterator.Search.{all_from_yields_List}
+use Rattle.by_hand.proofs.Showing.{all-unset}
 use Rattle.by_hand.proofs.dump.none_set.Goals as goal
 
-pub returns-then-word_at-ne0 : goal.returns-then-word_at-ne0
-returns-then-word_at-ne0 c = one_set _ 256 _ c.loop-i-test.true c.loop-i.invariant (λ z. c.if-word_at-ne0.true (c.word_at.ensures ∙ z))
-
-pub loop-i-preserved : goal.loop-i-preserved
-loop-i-preserved c = not_set _ 256 _ c.loop-i-test.true c.loop-i.invariant (sym c.word_at.ensures ∙ c.if-word_at-ne0.false)
-
 pub returns : goal.returns
-returns c = all-unset _ 256 _ c.loop-i-test.false c.loop-i.invariant
+returns c =
+    all_from_yields_List (λ (i : ℕ). eqb (get_or c.args.vars.now (i * 2) 0) 0) _ _ c.all.result c.all.ensures.ran (YieldsList-from_range 0 256 256 refl refl) (λ x b q k. search (rules, tests))
+    ∙ all-unset c.args.vars.now 256 0

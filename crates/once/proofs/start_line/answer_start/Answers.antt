@@ -6,8 +6,8 @@ use Rattle.once.proofs.start_line.answer_start.Goals as goal
 pub returns-then-line-gt-LONGEST : goal.returns-then-line-gt-LONGEST
 returns-then-line-gt-LONGEST c = start-long _ _ _ _ _ _ _ _ c.if-line-gt-LONGEST.true c.write_unread.ensures
 
-pub returns-then-asked-ne0 : goal.returns-then-asked-ne0
-returns-then-asked-ne0 c = start_unread _ _ _ _ _ _ _ _ c.if-line-gt-LONGEST.false refl c.read_start_line-asked.ensures c.if-asked-ne0.true c.write_unread-then-asked-ne0.ensures
+pub returns-in-Err : goal.returns-in-Err
+returns-in-Err c = start_unread _ _ _ _ _ _ _ _ c.if-line-gt-LONGEST.false refl c.read_start_line.ensures _ c.in-Err.is c.write_unread-in-Err.ensures
 
-pub returns : goal.returns
-returns c = start-runs _ _ _ _ _ _ _ _ c.if-line-gt-LONGEST.false refl c.read_start_line-asked.ensures c.if-asked-ne0.false c.run_fresh-r.ensures c.write_ran.ensures
+pub returns-in-Ok : goal.returns-in-Ok
+returns-in-Ok c = start-runs _ _ _ _ _ _ _ _ c.if-line-gt-LONGEST.false refl c.read_start_line.ensures _ c.in-Ok.is c.run_fresh-r.ensures c.write_ran.ensures

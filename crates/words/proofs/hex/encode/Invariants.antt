@@ -1,5 +1,5 @@
 -- `hex::encode` meets its contract: the digits of the bytes that are left, stored after those that are, are all of them.
-use Prim.Native.Nat.{◌≤◌, ◌+◌, ◌-◌, ◌*◌}
+use Prim.Native.Nat.{◌*◌}
 use mathlib.Core.Path.{◌≡◌}
 use lib.ListN.{length, drop}
 use lib.Seq.{sets}
@@ -7,8 +7,4 @@ use Rattle.words.specs.Hex.{pairs_of}
 use Rattle.words.proofs.hex.encode.Given as goal
 
 abbrev pub invariant-loop-i : goal.invariant-loop-i
-invariant-loop-i l =
-    (sets l.out l.at (pairs_of (drop l.i l.bytes)) ≡ sets l.initial.out l.from (pairs_of l.bytes)) × (l.at ≡ l.from + l.i * 2) × (length l.out ≡ length l.initial.out) × (l.i ≤ length l.bytes)
-
-abbrev pub decreases-loop-i : goal.decreases-loop-i
-decreases-loop-i l = length l.bytes - l.i
+invariant-loop-i l = (sets l.out (2 * l.i) (pairs_of (drop l.i l.bytes)) ≡ pairs_of l.bytes) × (length l.out ≡ length l.bytes * 2)

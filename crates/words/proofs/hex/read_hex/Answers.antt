@@ -1,5 +1,5 @@
 -- `hex::read_hex` meets its contract, by its two tests.
-use mathlib.Core.Path.{◌∙◌, sym}
+use Rattle.std.proofs.Common.{ℕ, ◌/◌, List, ◌++◌, length, drop, sym, ap, ◌∙◌}
 use Rattle.words.proofs.HexDigits.{not-hex, too_long, unpaired}
 use Rattle.words.proofs.hex.read_hex.Goals as goal
 
@@ -8,12 +8,13 @@ returns-then-not-is_hex c =
     let a = c.args in
     not-hex a.word.now a.out.now (sym c.is_hex.ensures ∙ c.if-not-is_hex.true)
 
-pub returns-then-out-word : goal.returns-then-out-word
-returns-then-out-word c =
+pub returns-then-out-count : goal.returns-then-out-count
+returns-then-out-count c =
     let a = c.args in
-    too_long a.word.now a.out.now (sym c.is_hex.ensures ∙ c.if-not-is_hex.false) c.if-out-word.true
+    too_long a.word.now a.out.now (sym c.is_hex.ensures ∙ c.if-not-is_hex.false) c.if-out-count.true
 
 pub returns : goal.returns
 returns c =
     let a = c.args in
-    unpaired a.word.now a.out.now (sym c.is_hex.ensures ∙ c.if-not-is_hex.false) c.if-out-word.false c.decode.ensures
+    unpaired a.word.now a.out.now (sym c.is_hex.ensures ∙ c.if-not-is_hex.false) c.if-out-count.false
+    (ap (λ (l : List ℕ). l ++ drop (length a.word.now / 2) a.out.now) c.decode.ensures)

@@ -1,22 +1,9 @@
--- `number::count_digits` meets its contract: the digits counted and those that are left are all of them.
-use Prim.Native.Nat.{◌-◌}
-use native.Mathlib.Omega.{arith}
-use mathlib.Core.Path.{refl}
-use Rattle.words.specs.Number.{places}
-use Rattle.words.proofs.Digits.{last-place, Next, next_place}
+-- `number::count_digits` meets its contract: only one count of digits is enough and needed.
+use Rattle.std.proofs.Common.{rules, tests}
+use Rattle.words.proofs.Numbers.{places-counted}
 use Rattle.words.proofs.number.count_digits.Goals as goal
-
-next : (c : goal.In-loop-left) → Next c.loop-left.count c.loop-left.left
-next c = next_place c.loop-left.count c.loop-left.left c.loop-left.invariant.1 c.loop-left-test.true
-
-pub loop-left-init : goal.loop-left-init
-unfolding places
-loop-left-init c = (refl, omega arith)
-
-pub loop-left-preserved : goal.loop-left-preserved
-loop-left-preserved c = (omega (arith, (next c).one), (next c).held)
 
 pub returns : goal.returns
 returns c =
-    let l = c.loop-left in
-    omega (arith, last-place (20 - l.count) l.left c.loop-left-test.false)
+    let e = c.checked_ilog10.ensures in
+    places-counted c.args.n c.ranges.n.fits c.checked_ilog10.result c.map_or.result e.none e.power_le e.next_power_gt c.map_or.ensures (λ k q. search (rules, tests))

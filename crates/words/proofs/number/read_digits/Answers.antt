@@ -1,37 +1,34 @@
--- `number::read_digits` meets its contract: what is left to read says, after what was read, what the whole word says.
-use native.Mathlib.Omega.{arith}
-use Rattle.words.proofs.Digits.{low-at, high_at, over_at, more-at, all_said}
+-- `number::read_digits` meets its contract: the digits that are left, after those that were read, say what all of them say.
+use Rattle.std.proofs.Common.{ℕ, ◌+◌, drop, arith, sym, ap, ◌∙◌}
+use Rattle.words.specs.Number.{digits_say}
+use Rattle.words.proofs.Digits.{other-at, over_at, more-at, all_said}
 use Rattle.words.proofs.number.read_digits.Goals as goal
 
-pub returns-then-b-lt48 : goal.returns-then-b-lt48
-returns-then-b-lt48 c =
-    let a = c.args in
-    let l = c.loop-i in
-    let w = c.wide-b in
-    low-at a.word.now l.i l.n w.result w.ensures (omega arith) l.invariant.0 c.if-b-lt48.true
+pub returns-then-not-is_ascii_digit : goal.returns-then-not-is_ascii_digit
+returns-then-not-is_ascii_digit c =
+    let l = c.loop-b in
+    other-at c.args.word.now l.b-index l.n c.loop-b-test.true l.invariant.0 (sym c.is_ascii_digit.ensures.value ∙ c.if-not-is_ascii_digit.true)
 
-pub returns-then-b-gt57 : goal.returns-then-b-gt57
-returns-then-b-gt57 c =
-    let a = c.args in
-    let l = c.loop-i in
-    let w = c.wide-b in
-    high_at a.word.now l.i l.n w.result w.ensures (omega arith) l.invariant.0 c.if-b-lt48.false c.if-b-gt57.true
+pub returns-in_err-checked_mul : goal.returns-in_err-checked_mul
+returns-in_err-checked_mul c =
+    let l = c.loop-b in
+    let m = c.in_err-checked_mul.ensures in
+    c.from_residual.ensures ∙ over_at c.args.word.now l.b-index l.n c.loop-b-test.true l.invariant.0 (omega (arith, m))
 
-pub returns-then-b-n : goal.returns-then-b-n
-returns-then-b-n c =
-    let a = c.args in
-    let l = c.loop-i in
-    let w = c.wide-b in
-    over_at a.word.now l.i l.n w.result w.ensures (omega arith) l.invariant.0 (omega arith)
+pub returns-in_err-n : goal.returns-in_err-n
+returns-in_err-n c =
+    let l = c.loop-b in
+    let m = c.in_err-n.ensures in
+    c.from_residual-in_err-n.ensures ∙ over_at c.args.word.now l.b-index l.n c.loop-b-test.true l.invariant.0 (omega (arith, m))
 
-pub loop-i-preserved : goal.loop-i-preserved
-loop-i-preserved c =
-    let a = c.args in
-    let l = c.loop-i in
-    let w = c.wide-b in
-    (more-at a.word.now l.i l.n w.result w.ensures (omega arith) l.invariant.0 c.if-b-lt48.false c.if-b-gt57.false, omega arith, omega arith)
+pub loop-b-preserved : goal.loop-b-preserved
+loop-b-preserved c =
+    let l = c.loop-b in
+    let m = c.in_ok-n.ensures in
+    let t = more-at c.args.word.now l.b-index l.n c.loop-b-test.true l.invariant.0 (sym c.is_ascii_digit.ensures.value ∙ c.if-not-is_ascii_digit.false) in
+    (ap (λ (n : ℕ). digits_say n (drop (l.b-index + 1) c.args.word.now)) (omega (arith, m)) ∙ t, omega (arith, m))
 
 pub returns : goal.returns
 returns c =
-    let l = c.loop-i in
-    all_said c.args.word.now l.i l.n c.loop-i-test.false l.invariant.2 l.invariant.0
+    let l = c.loop-b in
+    all_said c.args.word.now l.b-index l.n c.loop-b-test.false (omega arith) l.invariant.0

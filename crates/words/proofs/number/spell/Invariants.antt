@@ -1,5 +1,4 @@
--- `number::spell` meets its contract: the digits that are left, stored before those that are, are all of them.
-use Prim.Native.Nat.{◌≤◌}
+-- `number::spell` meets its contract: the digits that are left to spell, before those that are, are all of them.
 use mathlib.Core.Path.{◌≡◌}
 use lib.ListN.{length}
 use lib.Seq.{sets}
@@ -7,8 +6,4 @@ use Rattle.words.specs.Number.{digits}
 use Rattle.words.proofs.number.spell.Given as goal
 
 abbrev pub invariant-loop-i : goal.invariant-loop-i
-invariant-loop-i l =
-    (sets l.out l.from (digits l.i l.left) ≡ sets l.initial.out l.from (digits l.count l.n)) × (length l.out ≡ length l.initial.out) × (l.i ≤ l.count)
-
-abbrev pub decreases-loop-i : goal.decreases-loop-i
-decreases-loop-i l = l.i
+invariant-loop-i l = (sets l.out 0 (digits l.i l.left) ≡ digits (length l.initial.out) l.n) × (length l.out ≡ length l.initial.out)

@@ -1,21 +1,21 @@
 -- `number::write_number` meets its contract: the digits are stored where `place` gives them room.
-use mathlib.Core.Path.{◌∙◌, sym, ap}
-use Prim.Native.Nat.{ℕ}
+use Rattle.std.proofs.Common.{ℕ, sym, ap, ◌∙◌}
 use Rattle.words.specs.Number.{decimal, digits}
-use Rattle.words.proofs.Pieces.{written, unwritten}
+use Rattle.words.proofs.Pieces.{written, unwritten, part_length}
 use Rattle.words.proofs.Digits.{length-decimal}
 use Rattle.words.proofs.number.write_number.Goals as goal
 
-pub returns-in-To : goal.returns-in-To
-unfolding decimal
-returns-in-To c =
+pub returns-in_err-to : goal.returns-in_err-to
+returns-in_err-to c =
     let a = c.args in
-    let n = c.count_digits-count in
-    written (decimal a.n) n.result a.at a.out.now (n.ensures ∙ sym (length-decimal a.n)) c.in-To.to (digits n.result a.n) _
-    (ap (λ (k : ℕ). digits k a.n) n.ensures) (sym c.in-To.is ∙ c.place.ensures) c.spell.ensures
+    let n = c.count_digits in
+    rw c.from_residual.ensures (unwritten (decimal a.n) n.result a.at a.out.now (n.ensures ∙ sym (length-decimal a.n)) (sym c.in_err-to.was ∙ c.place.ensures))
 
-pub returns-in-Full : goal.returns-in-Full
-returns-in-Full c =
+pub returns : goal.returns
+unfolding decimal
+returns c =
     let a = c.args in
-    let n = c.count_digits-count in
-    unwritten (decimal a.n) n.result a.at a.out.now (n.ensures ∙ sym (length-decimal a.n)) (sym c.in-Full.is ∙ c.place.ensures)
+    let n = c.count_digits in
+    let p = sym c.in_ok-to.was ∙ c.place.ensures in
+    written (decimal a.n) n.result a.at a.out.now (n.ensures ∙ sym (length-decimal a.n)) c.in_ok-to.to _ p
+    (c.spell.ensures ∙ ap (λ (k : ℕ). digits k a.n) (part_length n.result a.at a.out.now c.in_ok-to.to p ∙ n.ensures))

@@ -1,16 +1,14 @@
--- `text::write_bytes_lem` meets its contract: the bytes are stored where `place` gives them room.
-use mathlib.Core.Path.{◌∙◌, sym, refl}
-use lib.ListN.{length}
+-- `text::write_bytes` meets its contract: the bytes are stored where `place` gives them room.
+use Rattle.std.proofs.Common.{length, refl, sym, ◌∙◌}
 use Rattle.words.proofs.Pieces.{written, unwritten}
 use Rattle.words.proofs.text.write_bytes.Goals as goal
 
-pub returns-in-To : goal.returns-in-To
-returns-in-To c =
+pub returns-in_err-to : goal.returns-in_err-to
+returns-in_err-to c =
     let a = c.args in
-    written a.bytes.now (length a.bytes.now) a.at a.out.now refl c.in-To.to a.bytes.now _ refl
-    (sym c.in-To.is ∙ c.place.ensures) c.copy.ensures
+    rw c.from_residual.ensures (unwritten a.bytes.now (length a.bytes.now) a.at a.out.now refl (sym c.in_err-to.was ∙ c.place.ensures))
 
-pub returns-in-Full : goal.returns-in-Full
-returns-in-Full c =
+pub returns : goal.returns
+returns c =
     let a = c.args in
-    unwritten a.bytes.now (length a.bytes.now) a.at a.out.now refl (sym c.in-Full.is ∙ c.place.ensures)
+    written a.bytes.now (length a.bytes.now) a.at a.out.now refl c.in_ok-to.to _ (sym c.in_ok-to.was ∙ c.place.ensures) c.copy_from_slice.ensures.after

@@ -1,17 +1,11 @@
--- `word::count_words` meets its contract: the words counted and those that are left are all of them.
-use native.Mathlib.Omega.{arith}
-use Rattle.words.proofs.Parting.{at_space, at_other, at-end}
+-- `word::count_words` meets its contract: the words are the parts that `split` gives.
+use Rattle.std.proofs.Common.{List, ℕ, length, rules, tests, eqb, sym, ap, ◌∙◌}
+use Rattle.std.proofs.lemmas.Iterator.Consumers.{count_from_yields_List}
+use Rattle.std.proofs.lemmas.Iterator.Splits.{YieldsList-from_slice_split}
+use Rattle.words.proofs.Parting.{words-split}
 use Rattle.words.proofs.word.count_words.Goals as goal
-use Rattle.words.proofs.word.count_words.Goals.{then-line-i-eq32, else-line-i-eq32}
-
-pub loop-i-preserved : goal.loop-i-preserved
-loop-i-preserved c =
-    let a = c.args.line.now in
-    let l = c.loop-i in
-    elim c.if-line-i-eq32.branch [
-      | then-line-i-eq32 w ↦ (omega (arith, at_space a l.i c.loop-i-test.true w.if-line-i-eq32.true), omega arith, omega arith)
-      | else-line-i-eq32 w ↦ (omega (arith, at_other a l.i c.loop-i-test.true w.if-line-i-eq32.false), omega arith, omega arith)
-    ]
 
 pub returns : goal.returns
-returns c = omega (arith, at-end c.args.line.now c.loop-i.i c.loop-i-test.false)
+returns c =
+    count_from_yields_List c.split.result c.count.result c.count.ensures.ran (YieldsList-from_slice_split _ (λ b. eqb b 32) c.args.line.now c.split.ensures.rest c.split.ensures.done c.split.ensures.closure (λ x b q k. search (rules, tests)))
+    ∙ ap (λ (ws : List (List ℕ)). length ws) (sym (words-split c.args.line.now))

@@ -1,22 +1,12 @@
--- `word::find` meets its contract: what is left to search answers for the whole.
-use native.Mathlib.Omega.{arith}
-use Rattle.words.proofs.Parting.{found_here, found_later, not_found}
+-- `word::find` meets its contract: the byte stands where `position` finds it.
+use Rattle.std.proofs.Common.{ℕ, ◌+◌, rules, tests, eqb, ap, ◌∙◌}
+use Rattle.std.proofs.lemmas.Iterator.{YieldsList-from_slice}
+use Rattle.std.proofs.lemmas.Iterator.Search.{position_from_yields_List}
+use Rattle.words.proofs.Parting.{until-found, rest-is}
 use Rattle.words.proofs.word.find.Goals as goal
-
-pub returns-then-s-i : goal.returns-then-s-i
-returns-then-s-i c =
-    let a = c.args in
-    let l = c.loop-i in
-    omega (arith, found_here a.b a.s.now l.i c.loop-i-test.true c.if-s-i.true)
-
-pub loop-i-preserved : goal.loop-i-preserved
-loop-i-preserved c =
-    let a = c.args in
-    let l = c.loop-i in
-    omega (arith, found_later a.b a.s.now l.i c.loop-i-test.true c.if-s-i.false)
 
 pub returns : goal.returns
 returns c =
-    let a = c.args in
-    let l = c.loop-i in
-    omega (arith, not_found a.b a.s.now l.i c.loop-i-test.false)
+    let rest = c.unwrap_or_default-rest.result.now in
+    let p = position_from_yields_List (λ x. eqb x c.args.b) _ _ c.position.result c.position.ensures.ran (YieldsList-from_slice rest cc) (λ x b q k. search (rules, tests)) in
+    ap (λ (k : ℕ). c.args.from + k) (c.unwrap_or.ensures ∙ until-found c.args.b c.args.from c.args.s.now rest c.position.result (rest-is c.args.s.now c.args.from c.get.result _ c.get.ensures.lookup.0 c.unwrap_or_default-rest.ensures) p)
