@@ -9,6 +9,7 @@ use value::refusal::Refusal;
 
 // The store's own bytes from `from` on are written through pointer `to`.
 #[tactic(auto, using(crate::proofs::Copies::local), unfolding(memory::specs::Tables::written_of))]
+#[inline(always)]
 fn copy_local(
     m: Registers,
     to: usize,
@@ -50,6 +51,7 @@ fn copy_constant(
 
 // `count` bytes go from where pointer `from` leads to where pointer `to` does: the read's checks in full, then the write's.
 #[tactic(auto, using(crate::proofs::Copies::copied), unfolding(memory::specs::Tables::copied_of, memory::specs::Tables::read_of))]
+#[inline(always)]
 pub fn copy_bytes(
     m: Registers,
     to: usize,

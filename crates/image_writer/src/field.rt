@@ -17,7 +17,7 @@ pub fn write_pair(first: u64, second: u64, out: &mut [u8], start: usize) -> Opti
     write_number(second, out, at)
 }
 
-// Raw bytes, of a constant or of Initialize.
+// Raw bytes, of a constant or of Initialize: a byte a turn, so that the library for C asks for no `memmove`.
 pub fn write_bytes(raw: &[u8], out: &mut [u8], start: usize) -> Option<usize>
     ensures { Stored raw.now start out.old result out.new }
 {
@@ -25,7 +25,8 @@ pub fn write_bytes(raw: &[u8], out: &mut [u8], start: usize) -> Option<usize>
     if out.len() < n || out.len() - n < start {
         return None;
     }
-    let end = start + n;
-    out[start..end].copy_from_slice(raw);
-    Some(end)
+    for i in 0..n {
+        out[start + i] = raw[i];
+    }
+    Some(start + n)
 }

@@ -1,15 +1,24 @@
 -- Laws of lists: filling, pasting and tabulating, by index.
 use mathlib.Core.Path.{◌≡◌, ap, ◌∙◌, sym}
 use mathlib.Core.List.{List, append-nil}
-use Prim.Native.Nat.{ℕ, ◌+◌, ◌-◌, ◌≤◌, zero, suc}
+use Prim.Native.Nat.{ℕ, ◌+◌, ◌-◌, ◌<◌, ◌≤◌, zero, suc}
+use native.Mathlib.Numerals.{add-one}
 use native.Mathlib.Nat.{zero-add}
 use native.Mathlib.Omega.{arith}
-use lib.ListN.{set, length, take, replicate, length-replicate, get_or-replicate}
-use lib.Seq.{paste, paste-zero, paste-suc, drop-length}
+use lib.ListN.{get_or, set, length, take, drop, replicate, length-replicate, get_or-replicate}
+use lib.Seq.{paste, paste-zero, paste-suc, get_or-drop, drop-length}
 use borrow.Rule.Slice.PartMut.{mid_of, put_mid}
 use Rattle.std.proofs.lemmas.Slice.{put_mid-paste}
 use Rattle.memory.specs.Tables.{zeroed}
 use Rattle.memory.proofs.Tab.{part_length}
+
+pub filled : (d : List ℕ) (at : ℕ) (s : List ℕ) (i : ℕ) → i < length d → i < length (drop at s)
+    → set (paste d 0 (drop at s) i) i (get_or s (at + i) 0) ≡ paste d 0 (drop at s) (i + 1)
+filled d at s i h k =
+    let l : 0 + i < length d = omega arith in
+    ap (λ v. set (paste d 0 (drop at s) i) i v) (sym (get_or-drop at s i 0))
+    ∙ ap (λ j. set (paste d 0 (drop at s) i) j (get_or (drop at s) i 0)) (sym (zero-add i))
+    ∙ paste-suc d 0 (drop at s) i 0 l k ∙ ap (paste d 0 (drop at s)) (sym (add-one i))
 
 pub full : (d t : List ℕ) → paste d 0 t (length d) ≡ take (length d) t
 full d t = simp (zero-add, drop-length, append-nil)

@@ -11,7 +11,8 @@
 // What lies above the depth and the counts is stale: it means nothing, and is left as it stood.
 #![tactic(auto)]
 
-ghost use Rattle.std.specs.Prelude.{◌≡◌, ◌+◌, ◌<◌, ◌≤◌, true, length};
+ghost use Rattle.std.specs.Prelude.{◌≡◌, ◌+◌, ◌<◌, ◌≤◌, true, length, take, drop};
+ghost use Rattle.std.proofs.Math.Seq.{paste};
 ghost use Rattle.memory.specs.Tables.{tables, ready, ready_of, live, top_first, bound, both, all, out, pointer_at, pointer_set, fresh_of, pushed_of, popped_of, room_of, made, allocated_of, aligned_of, within_of, ranked_of, standing_of, stands_of, local_of, read_access_of, write_access_of, written_of, constant_access_of, constant_of, read_of, offset_of, address_of};
 
 use value::refusal::Refusal;
@@ -409,6 +410,7 @@ pub fn stands(d: usize, q: PointerRecord, frames: &[u64]) -> Result<usize, Refus
 
 // A local access: 27, 28, 29, 30.
 #[tactic(auto, using(crate::proofs::Laws::standing_few), unfolding(crate::specs::Tables::local_of))]
+#[inline(always)]
 fn local(
     d: usize,
     q: PointerRecord,
@@ -426,6 +428,7 @@ fn local(
 
 // What a read of `size` bytes through pointer p takes: 25, then a constant, or a local access.
 #[tactic(auto, using(crate::proofs::Laws::ready_of_lem), unfolding(crate::specs::Tables::read_access_of))]
+#[inline(always)]
 pub fn read_access(
     m: Registers,
     p: usize,
@@ -452,6 +455,7 @@ pub fn read_access(
 
 // Where in the store a write of `size` bytes through pointer p goes: 25, 26, then a local access.
 #[tactic(auto, unfolding(crate::specs::Tables::write_access_of))]
+#[inline(always)]
 pub fn write_access(
     m: Registers,
     p: usize,
@@ -469,6 +473,26 @@ pub fn write_access(
     }
 }
 
+// `s` is copied into `d` from `at` on. A byte a turn, so that the library for C asks for no `memmove`.
+fn copy_in(d: &mut [u8], at: usize, s: &[u8])
+    requires { at + length s.now ≤ length d.old }
+    ensures { d.new ≡ paste d.old at s.now (length s.now) }
+{
+    for i in 0..s.len() {
+        d[at + i] = s[i];
+    }
+}
+
+// `d` is filled from `s`, from `at` on.
+fn copy_out(s: &[u8], at: usize, d: &mut [u8])
+    requires { at + length d.old ≤ length s.now }
+    ensures { d.new ≡ take (length d.old) (drop at s.now) }
+{
+    for i in 0..d.len() {
+        d[i] = s[at + i];
+    }
+}
+
 // The bytes are written through pointer p.
 #[tactic(auto, using(crate::proofs::Laws::fits), unfolding(crate::specs::Tables::written_of))]
 pub fn write_bytes(
@@ -483,7 +507,7 @@ pub fn write_bytes(
     ensures { both result store.new ≡ written_of (tables m store.old frames.now bounds.now pointers.now) p bytes.now }
 {
     let at = write_access(m, p, bytes.len(), store, frames, bounds, pointers)?;
-    store[at..at + bytes.len()].copy_from_slice(bytes);
+    copy_in(store, at, bytes);
     Ok(())
 }
 
@@ -516,7 +540,7 @@ pub fn read_constant(k: u64, bytes: &mut [u8], raw: &[u8], extents: &[u64]) -> R
     ensures { both result bytes.new ≡ constant_of k bytes.old raw.now extents.now }
 {
     let start = constant_access(k, bytes.len() as u64, raw, extents)?;
-    bytes.copy_from_slice(&raw[start..start + bytes.len()]);
+    copy_out(raw, start, bytes);
     Ok(())
 }
 
@@ -537,7 +561,7 @@ pub fn read_bytes(
 {
     match read_access(m, p, bytes.len(), store, frames, bounds, pointers)? {
         Source::Local(at) => {
-            bytes.copy_from_slice(&store[at..at + bytes.len()]);
+            copy_out(store, at, bytes);
             Ok(())
         }
         Source::Constant(k) => read_constant(k, bytes, raw, extents),

@@ -24,6 +24,7 @@ fn with_next(m: Registers, place: usize) -> Registers
 }
 
 #[tactic(auto, unfolding(crate::specs::Step::stepped_of, crate::specs::Step::dispatched))]
+#[inline(always)]
 pub fn step_at(
     m: Registers,
     image: &[u8],
