@@ -106,7 +106,7 @@ module _ (s : State) (st : Steady s) (image labels : List ℕ) (P : Program) (la
   -- what follows from the examinee
   switched : (bs : List Branch) (default : ℕ) → LabelsFit P bs → default < length P.blocks → (branch : ℕ → Field)
       → ((bits : ℕ) → (next : ℕ) × (branch bits ≡ field (choose bits bs default) next) × (0 < next)) → (a : Answer Value)
-      → Agrees s (either (found_of a) (λ n. Err n) (λ v. either (key_of v) (λ n. Err n) (λ bits. went_of (onward s) labels (branch bits))))
+      → Agrees s (either (key_of (found_of a)) (λ n. Err n) (λ v. went_of (onward s) labels (branch v.bits)))
       (with_variables s s.variables) (a >>= λ v. switch_on v >>= λ n. jump believed (seen s) (place_of P (choose n bs default)))
   unfolding key_of switch_on need ◌>>=◌
   switched bs default f l branch reads (refused n) = refusal refl

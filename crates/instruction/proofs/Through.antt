@@ -193,7 +193,7 @@ module _ (t : Tables) (p : ℕ) (s extents : List ℕ) where
 
 -- ---- what the code's functions cite
 
-pub ruleset stores = (bytes_fit, bytes_in_front, stored_value, stored_unsound, word_valued)
+pub ruleset stores = (bytes_fit, bytes_in_front, stored_value, stored_unsound, word_valued, not_stored)
 
 pub ruleset reads = (read_local, not_read, read_constant, no_constant_lem)
 

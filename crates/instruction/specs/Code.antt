@@ -52,9 +52,10 @@ went_of m labels l =
 unfoldable pub jumped_of : Registers → (image labels : List ℕ) → (at : ℕ) → Result Progress Refusal
 jumped_of m s labels at = went_of m labels (field_at s at)
 
--- the number that a Switch goes by: a value's bits, where its kind is one of those that a Switch takes
-unfoldable pub key_of : Found → Result ℕ Refusal
-key_of v = pick (ltb (tag u32) v.tag) (Err wrong_kinds) (Ok v.bits)
+-- the value that a Switch goes by, where its kind is one of those that a Switch takes, or the operand's refusal
+unfoldable pub key_of : Result Found Refusal → Result Found Refusal
+key_of (Ok v) = pick (ltb (tag u32) v.tag) (Err wrong_kinds) (Ok v)
+key_of (Err n) = Err n
 
 -- the label of the first of n branches with this number, or the default
 unfoldable pub branch_of : (image : List ℕ) → (n bits at : ℕ) → Field
@@ -68,8 +69,7 @@ unfoldable pub switched_of : Registers → (image labels vars : List ℕ) → (a
 switched_of m s labels vars at =
     let examinee = operand_at s at in
     let count = field_at s examinee.next in
-    either (evaluated vars examinee) (λ n. Err n) (λ v.
-    either (key_of v) (λ n. Err n) (λ bits. went_of m labels (branch_of s count.value bits count.next)))
+    either (key_of (evaluated vars examinee)) (λ n. Err n) (λ v. went_of m labels (branch_of s count.value v.bits count.next))
 
 -- "to, comparison .., two operands", "to, two operands", "to, signed flag, two operands"
 unfoldable pub middle_of : (opcode : ℕ) → (image : List ℕ) → (at : ℕ) → Field

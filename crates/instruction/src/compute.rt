@@ -166,11 +166,17 @@ fn short(opcode: u64, how: u64, x: Found, y: Found) -> Option<Found>
     }
 }
 
-// Two operands' values. The second's refusal counts only after the first is seen to be a value.
+// Two operands' values, the first's refusal first. The second's counts only after the first is seen to be a value.
 #[tactic(auto, using(crate::proofs::Computed::first))]
-pub fn binary(opcode: u64, how: u64, x: Found, y: Result<Found, Refusal>) -> Result<Found, Refusal>
-    ensures { result ≡ found_of (binary_of opcode how (Ok x) y) }
+pub fn binary(
+    opcode: u64,
+    how: u64,
+    x: Result<Found, Refusal>,
+    y: Result<Found, Refusal>,
+) -> Result<Found, Refusal>
+    ensures { result ≡ found_of (binary_of opcode how x y) }
 {
+    let x = x?;
     if let Ok(v) = y {
         if let Some(quick) = short(opcode, how, x, v) {
             return Ok(quick);
@@ -194,9 +200,9 @@ pub fn alter(opcode: u64, a: IrValue) -> Result<IrValue, Refusal>
 
 // One operand's value.
 #[tactic(auto, using(crate::proofs::Computed::alone))]
-pub fn unary(opcode: u64, x: Found) -> Result<Found, Refusal>
-    ensures { result ≡ found_of (unary_of opcode (Ok x)) }
+pub fn unary(opcode: u64, x: Result<Found, Refusal>) -> Result<Found, Refusal>
+    ensures { result ≡ found_of (unary_of opcode x) }
 {
-    let a = IrValue::try_from(x)?;
+    let a = IrValue::try_from(x?)?;
     found(alter(opcode, a))
 }

@@ -1,5 +1,5 @@
 // The instructions that hand out a pointer: ConstantAddress and Offset.
-ghost use Rattle.std.specs.Prelude.{◌≡◌, Ok};
+ghost use Rattle.std.specs.Prelude.{◌≡◌};
 ghost use Rattle.memory.specs.Tables.{both};
 ghost use Rattle.instruction.specs.Storage.{as_pointer_of, number_in, pointed, pointed_of, addressed_of, offsetted_of};
 
@@ -11,11 +11,11 @@ use value::refusal::Refusal;
 use value::{IrType, IrValue};
 
 // A value where a pointer is asked for.
-#[tactic(auto, using(crate::proofs::Handed::asked))]
-pub fn as_pointer(v: Found) -> Result<u64, Refusal>
-    ensures { result ≡ number_in (as_pointer_of (Ok v)) }
+#[tactic(auto, using(crate::proofs::Handed::asked), unfolding(value::specs::Answer::need, value::specs::Ir::value_of, value::specs::Value::tag))]
+pub fn as_pointer(v: Result<Found, Refusal>) -> Result<u64, Refusal>
+    ensures { result ≡ number_in (as_pointer_of v) }
 {
-    let IrValue::Pointer(p) = IrValue::try_from(v)? else {
+    let IrValue::Pointer(p) = IrValue::try_from(v?)? else {
         return Err(Refusal::WrongKinds);
     };
     Ok(p)
@@ -56,7 +56,7 @@ pub fn address(
 }
 
 // Offset: to, operand, u32.
-#[tactic(auto, using(crate::proofs::Handed::asked), unfolding(crate::specs::Storage::offsetted_of))]
+#[tactic(auto, unfolding(crate::specs::Storage::offsetted_of))]
 pub fn offset(
     m: Registers,
     image: &[u8],
@@ -69,7 +69,7 @@ pub fn offset(
     let to = read_field(image, at);
     let from = read_operand(image, to.next);
     let by = read_field(image, from.next);
-    let p = as_pointer(evaluate(vars, from)?)?;
+    let p = as_pointer(evaluate(vars, from))?;
     let given = offset_by(m, p as usize, by.value, pointers);
     point(given, vars, to.value)
 }

@@ -76,13 +76,14 @@ pub fn jump(m: Registers, image: &[u8], at: usize, labels: &[usize]) -> Result<P
 
 // What Switch takes: Bool, U8, U16, U32.
 #[tactic(auto, unfolding(crate::specs::Code::key_of, value::specs::Value::tag))]
-pub fn key(v: Found) -> Result<u64, Refusal>
+pub fn key(v: Result<Found, Refusal>) -> Result<Found, Refusal>
     ensures { result ≡ key_of v }
 {
+    let v = v?;
     if IrType::U32_TAG < v.tag {
         return Err(Refusal::WrongKinds);
     }
-    Ok(v.bits)
+    Ok(v)
 }
 
 // Place k, if it is even and its byte is the number; else 255.
@@ -169,8 +170,8 @@ pub fn switch(
 {
     let examinee = read_operand(image, at);
     let count = read_field(image, examinee.next);
-    let bits = key(evaluate(vars, examinee)?)?;
-    go(m, labels, branch(image, count.next, count.value, bits))
+    let v = key(evaluate(vars, examinee))?;
+    go(m, labels, branch(image, count.next, count.value, v.bits))
 }
 
 // The field between `to` and the operands of opcodes 6 to 13: a comparison's number, or a signed flag, where there is one.
@@ -185,7 +186,7 @@ pub fn middle(opcode: u64, image: &[u8], at: usize) -> Field
 }
 
 // Opcodes 6 to 13: to, two operands; the signed flag of Div and Mod is ignored.
-#[tactic(auto, using(crate::proofs::Computed::first), unfolding(crate::specs::Code::combined_of, crate::specs::Code::finished_of))]
+#[tactic(auto, unfolding(crate::specs::Code::combined_of))]
 pub fn combine(
     m: Registers,
     opcode: u64,
@@ -199,14 +200,14 @@ pub fn combine(
     let how = middle(opcode, image, to.next);
     let left = read_operand(image, how.next);
     let right = read_operand(image, left.next);
-    let x = evaluate(vars, left)?;
+    let x = evaluate(vars, left);
     let y = evaluate(vars, right);
     let r = binary(opcode, how.value, x, y);
     finish(m, vars, to.value, r)
 }
 
 // Opcodes 14 and 15: to, operand.
-#[tactic(auto, using(crate::proofs::Computed::alone), unfolding(crate::specs::Code::changed_of, crate::specs::Code::finished_of))]
+#[tactic(auto, unfolding(crate::specs::Code::changed_of))]
 pub fn change(
     m: Registers,
     opcode: u64,
@@ -218,7 +219,7 @@ pub fn change(
 {
     let to = read_field(image, at);
     let from = read_operand(image, to.next);
-    let x = evaluate(vars, from)?;
+    let x = evaluate(vars, from);
     let r = unary(opcode, x);
     finish(m, vars, to.value, r)
 }

@@ -1,5 +1,5 @@
 // The instructions that reach through pointers: Initialize, Write, Read and Copy.
-ghost use Rattle.std.specs.Prelude.{◌≡◌, Ok};
+ghost use Rattle.std.specs.Prelude.{◌≡◌};
 ghost use Rattle.memory.specs.Tables.{tables, both, out, written_of};
 ghost use Rattle.instruction.specs.Compute.{found_of};
 ghost use Rattle.value.specs.Value.{size, bytes_of};
@@ -56,14 +56,15 @@ fn write_word(
 pub fn write_value(
     m: Registers,
     p: usize,
-    v: Found,
+    v: Result<Found, Refusal>,
     store: &mut [u8],
     frames: &[u64],
     bounds: &[u64],
     pointers: &[u64],
 ) -> Result<(), Refusal>
-    ensures { both result store.new ≡ stored_of (tables m store.old frames.now bounds.now pointers.now) p (Ok v) }
+    ensures { both result store.new ≡ stored_of (tables m store.old frames.now bounds.now pointers.now) p v }
 {
+    let v = v?;
     if let Some(value) = word(v.tag, v.bits) {
         return write_word(m, p, value, store, frames, bounds, pointers);
     }
@@ -75,7 +76,7 @@ pub fn write_value(
 }
 
 // Write: two operands, where and what. The first is tested before the second is evaluated.
-#[tactic(auto, using(crate::proofs::Handed::asked, crate::proofs::Through::not_stored), unfolding(crate::specs::Storage::write_of))]
+#[tactic(auto, unfolding(crate::specs::Storage::write_of))]
 pub fn write(
     m: Registers,
     image: &[u8],
@@ -90,8 +91,8 @@ pub fn write(
 {
     let to = read_operand(image, at);
     let what = read_operand(image, to.next);
-    let p = as_pointer(evaluate(vars, to)?)?;
-    let v = evaluate(vars, what)?;
+    let p = as_pointer(evaluate(vars, to))?;
+    let v = evaluate(vars, what);
     write_value(m, p as usize, v, store, frames, bounds, pointers)?;
     Ok(Progress::Next(m))
 }
@@ -146,7 +147,7 @@ pub fn read_typed(
 }
 
 // Read: to, operand, type.
-#[tactic(auto, using(crate::proofs::Handed::asked, crate::proofs::Through::typed), unfolding(crate::specs::Storage::reading_of, crate::specs::Code::finished_of))]
+#[tactic(auto, using(crate::proofs::Through::typed), unfolding(crate::specs::Storage::reading_of, crate::specs::Code::finished_of))]
 pub fn read(
     m: Registers,
     image: &[u8],
@@ -163,7 +164,7 @@ pub fn read(
     let to = read_field(image, at);
     let from = read_operand(image, to.next);
     let tag = read_field(image, from.next);
-    let p = as_pointer(evaluate(vars, from)?)?;
+    let p = as_pointer(evaluate(vars, from))?;
     let Some(ty) = IrType::from_tag(tag.value) else {
         return Err(Refusal::NoInstruction);
     };
@@ -230,7 +231,7 @@ pub fn initialize(
 }
 
 // Copy: operands to and from, u32. Both are pointers before either is followed.
-#[tactic(auto, using(crate::proofs::Handed::asked), unfolding(crate::specs::Storage::copying_of))]
+#[tactic(auto, unfolding(crate::specs::Storage::copying_of))]
 pub fn copy(
     m: Registers,
     image: &[u8],
@@ -247,8 +248,8 @@ pub fn copy(
     let to = read_operand(image, at);
     let from = read_operand(image, to.next);
     let count = read_field(image, from.next);
-    let p = as_pointer(evaluate(vars, to)?)?;
-    let q = as_pointer(evaluate(vars, from)?)?;
+    let p = as_pointer(evaluate(vars, to))?;
+    let q = as_pointer(evaluate(vars, from))?;
     copy_bytes(
         m,
         p as usize,

@@ -4,31 +4,36 @@ use crate::line::Line;
 use instruction::compute::{binary, unary};
 use instruction::step::key;
 use instruction::variables::Found;
-use value::IrValue;
 use value::refusal::Refusal;
 
-fn compute(opcode: u64, how: u64, x: Found, y: Found) -> Result<Found, Refusal> {
+// An operand of kind 0 is a refusal. This one, which no operation has of its own, stands for it.
+fn operand(v: Found, refusal: Refusal) -> Result<Found, Refusal> {
+    if v.tag == 0 { Err(refusal) } else { Ok(v) }
+}
+
+fn compute(
+    opcode: u64,
+    how: u64,
+    x: Result<Found, Refusal>,
+    y: Result<Found, Refusal>,
+) -> Result<Found, Refusal> {
     match opcode {
-        1 => key(x).map(|bits| Found { tag: x.tag, bits }),
+        1 => key(x),
         14 | 15 => unary(opcode, x),
-        _ => binary(opcode, how, x, Ok(y)),
+        _ => binary(opcode, how, x, y),
     }
 }
 
-// The answer's kind and bits. An operand of kind 0 is a refusal, and so the answer where it is the first that is no value.
+// The answer's kind and bits. Where an operand's refusal comes out, its bits are the number.
 fn answer(opcode: u64, how: u64, x: Found, y: Found) -> (u64, u64) {
-    if x.tag == 0 {
-        return (0, x.bits);
-    }
-    match compute(opcode, how, x, y) {
+    let first = operand(x, Refusal::Running);
+    let second = operand(y, Refusal::Idle);
+    match compute(opcode, how, first, second) {
         Ok(v) => (v.tag, v.bits),
-        Err(_) if y.tag == 0 && is_value(x) && !matches!(opcode, 1 | 14 | 15) => (0, y.bits),
+        Err(Refusal::Running) => (0, x.bits),
+        Err(Refusal::Idle) => (0, y.bits),
         Err(n) => (0, n.number()),
     }
-}
-
-fn is_value(x: Found) -> bool {
-    IrValue::from_bits(x.tag, x.bits).is_some()
 }
 
 // Whether the line's answer is ours.
