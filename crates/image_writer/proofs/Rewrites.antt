@@ -8,7 +8,7 @@ use lib.ListN.{length, take, drop}
 use lib.Seq.{take-length}
 use lib.Dec.{leb}
 use borrow.Author.Tests.{le-leb, lt-leb}
-use Rattle.value.specs.Refusal.{over_limit}
+use Rattle.value.specs.Refusal.{over_limit, short_buffer}
 use Rattle.image.specs.Parse.{took, refused, and_then}
 use Rattle.image.specs.Image.{program_of, loaded}
 use Rattle.image.specs.Program.{Program}
@@ -48,7 +48,7 @@ module _ (s : List ℕ) where
     image-refused e = let r = refused_so e in record { answer = rw r; bytes = rw r }
 
     module _ (bs : AreBytes s) {l : Loaded} (e : loaded_from s ≡ Ok l) where
-      pub too_short : length before < l.end → Rewrote s before (Err Short) before
+      pub too_short : length before < l.end → Rewrote s before (Err (Short short_buffer)) before
       unfolding outcome buffer
       too_short over =
           let t = taken e in

@@ -2,6 +2,7 @@
 use Rattle.std.specs.Prelude.{ℕ, ◌≤◌, List, ◌++◌, ◌≡◌, length, take, drop, leb, Result, Ok, Err}
 use denote.Ref.{MutBor}
 use Rattle.value.specs.Answer.{pick}
+use Rattle.value.specs.Refusal.{short_buffer}
 use Rattle.image.specs.Parse.{Got, took, refused}
 use Rattle.image.specs.Program.{Program}
 use Rattle.image.specs.Image.{loaded}
@@ -15,7 +16,7 @@ use Rattle.image_writer.specs.declared.writer.WriteError.TheVariants.{NotLoaded,
 -- what the image writer answers: the length of what it wrote, the loader's refusal, or "image writer's buffer too short"
 unfoldable pub outcome : Got Program → (before : List ℕ) → Result ℕ WriteError
 outcome (refused why place) before = Err (NotLoaded (stop why place))
-outcome (took P end) before = pick (leb (length (written P)) (length before)) (Ok (length (written P))) (Err Short)
+outcome (took P end) before = pick (leb (length (written P)) (length before)) (Ok (length (written P))) (Err (Short short_buffer))
 
 -- The buffer: the program's bytes, and the rest of it as it stood; or untouched.
 unfoldable pub buffer : Got Program → (before : List ℕ) → List ℕ

@@ -8,6 +8,7 @@ use crate::field::{write_bytes, write_pair};
 use image::field::raw_after;
 use image::number::{Stop, read_number, write_number};
 use loader::load::load;
+use value::refusal::Refusal;
 
 // Where reading stands in the image and writing in the buffer, and the last number that was read. The walk has no refusal to hand
 // on by `?`: the image was loaded and has room, so `write_image` cannot fail in it, and what cannot be read is passed by.
@@ -308,11 +309,11 @@ fn pass_whole(image: &[u8], out: &mut [u8], c: Pass) -> Pass
     )
 }
 
-// Why nothing was written: the loader's refusal, or no room for the image.
+// Why nothing was written: the loader's refusal, or that of a buffer with no room for the image.
 #[derive(Clone, Copy, Debug, PartialEq, Eq)]
 pub enum WriteError {
     NotLoaded(Stop),
-    Short,
+    Short(Refusal),
 }
 
 impl From<Stop> for WriteError {
@@ -329,7 +330,7 @@ pub fn write_image(image: &[u8], out: &mut [u8]) -> Result<usize, WriteError>
 {
     let loaded = load(image)?;
     if out.len() < loaded.end {
-        return Err(WriteError::Short);
+        return Err(WriteError::Short(Refusal::ShortBuffer));
     }
     let start = Pass {
         value: 0,

@@ -80,11 +80,11 @@ impl<'a> Fields<'a> {
     {
         let choice = self.variable(at)?;
         let (_, operands) = below_after(self.image, choice, limit, Refusal::Unknown)?;
-        self.operands(operands)
+        self.pair(operands)
     }
 
     // Write: where, what.
-    fn operands(self, at: usize) -> Result<usize, Stop>
+    fn pair(self, at: usize) -> Result<usize, Stop>
         ensures { result ≡ walk (field_of self.entry operand) (shape (field_of self.entry operand at)) }
     {
         self.operand(self.operand(at)?)
@@ -94,7 +94,7 @@ impl<'a> Fields<'a> {
     fn three(self, at: usize) -> Result<usize, Stop>
         ensures { result ≡ walk (field_of self.entry operand) (walk (field_of self.entry operand) (shape (field_of self.entry var at))) }
     {
-        self.operands(self.variable(at)?)
+        self.pair(self.variable(at)?)
     }
 
     // Not, Negate: to, operand.
@@ -123,7 +123,7 @@ impl<'a> Fields<'a> {
     fn copy(self, at: usize) -> Result<usize, Stop>
         ensures { result ≡ walk (u32 self.entry.image.now) (walk (field_of self.entry operand) (shape (field_of self.entry operand at))) }
     {
-        self.u32(self.operands(at)?)
+        self.u32(self.pair(at)?)
     }
 
     // An instruction: its opcode, and the fields that the opcode has.
@@ -145,7 +145,7 @@ impl<'a> Fields<'a> {
             14..=15 => self.two(next),
             16 => self.offset(next),
             17 => self.initialize(next),
-            18 => self.operands(next),
+            18 => self.pair(next),
             20 => self.copy(next),
             21 => self.operand(next),
             22..=0xffff_ffff_ffff_ffff => Err(Stop {

@@ -1,11 +1,13 @@
 // Operands: a variable, or a value's tag and its bits.
 ghost use Rattle.std.specs.Prelude.{◌≡◌};
+ghost use Rattle.image.specs.Parse.{many};
 ghost use Rattle.image.specs.Fields.{optional, list_of};
 ghost use Rattle.image.specs.Image.{operand};
 ghost use Rattle.image.specs.Answer.{shape};
 ghost use Rattle.loader.specs.Fields.{field_of};
 
 use crate::fields::Fields;
+use crate::many;
 use image::number::{Stop, read_number};
 use value::IrType;
 use value::refusal::Refusal;
@@ -30,6 +32,13 @@ impl<'a> Fields<'a> {
         ensures { result ≡ shape (optional self.entry.image.now (field_of self.entry operand) at) }
     {
         self.optional(at, |at| self.operand(at))
+    }
+
+    // `count` operands, one after another.
+    pub fn operands(self, at: usize, count: u64) -> Result<usize, Stop>
+        ensures { result ≡ shape (many count (field_of self.entry operand) at) }
+    {
+        many(count, at, |at| self.operand(at))
     }
 
     // A Call's arguments.

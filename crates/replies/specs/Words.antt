@@ -95,7 +95,7 @@ reply_read (Err e) = reply_error e
 abbrev pub reply_written : Result ℕ WriteError → Reply
 reply_written (Ok count) = counted_of 0 count
 reply_written (Err (write.NotLoaded e)) = stopped_of e
-reply_written (Err write.Short) = refused_of refusal.short_buffer
+reply_written (Err (write.Short n)) = refused_of n
 
 abbrev pub number_of : Result ⊤ Refusal → ℕ
 number_of (Ok u) = 0

@@ -184,7 +184,7 @@ pub fn reply_written(r: Result<usize, WriteError>) -> Reply
     match r {
         Ok(count) => counted(0, count as u64),
         Err(WriteError::NotLoaded(stop)) => stopped(stop),
-        Err(WriteError::Short) => refused(Refusal::ShortBuffer),
+        Err(WriteError::Short(why)) => refused(why),
     }
 }
 

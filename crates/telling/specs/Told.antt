@@ -2,7 +2,7 @@
 use Rattle.memory.specs.declared.Registers.{Registers}
 use Rattle.std.specs.Prelude.{ℕ, Option, Some, None, List, take, Result, Ok, Err, ⊤}
 use Rattle.value.specs.declared.refusal.Refusal.{Refusal}
-use Rattle.value.specs.Refusal.{number_of, short_buffer}
+use Rattle.value.specs.Refusal.{number_of}
 use Rattle.image.specs.declared.number.Stop.{Stop}
 use Rattle.words.specs.Text.{Text, text, puts}
 use Rattle.answers.specs.Lines.{Pieces, returned_line, returned_none_line, paused_line, refused_line, image_refused_line, pointer_line, bytes_line, ok_line, stepped_line, refusal_line, value_line, no_value_line}
@@ -89,5 +89,5 @@ read_line (Err e) bs = error_line e
 -- "`rewrite ROOM` .. → the image written again by the image writer: `bytes HEX`", the first bytes of the writer's buffer
 abbrev pub rewritten_line : Result ℕ WriteError → List ℕ → Pieces
 rewritten_line (Ok n) bs = bytes_line (take n bs)
-rewritten_line (Err write.Short) bs = refusal_line (number_of short_buffer)
+rewritten_line (Err (write.Short why)) bs = refusal_line (number_of why)
 rewritten_line (Err (write.NotLoaded e)) bs = stop_line e

@@ -138,7 +138,7 @@ pub fn write_rewritten(out: &mut [u8], r: Result<usize, WriteError>, bytes: &[u8
             let end = within(n, bytes);
             write_read_bytes(out, 0, &bytes[..end])
         }
-        Err(WriteError::Short) => write_refusal(out, 0, Refusal::ShortBuffer.number()),
+        Err(WriteError::Short(why)) => write_refusal(out, 0, why.number()),
         Err(WriteError::NotLoaded(stop)) => write_stop(out, stop),
     }
 }

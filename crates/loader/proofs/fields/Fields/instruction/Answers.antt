@@ -66,7 +66,7 @@ returns-in-17 c =
 pub returns-in-18 : goal.returns-in-18
 returns-in-18 c =
     let a = c.args in
-    c.operands.ensures ∙ sym (write-row a.self.image.now (counts_of a.self.counts) a.at (sym c.in_ok-opcode.ensures) c.in-18.is)
+    c.pair.ensures ∙ sym (write-row a.self.image.now (counts_of a.self.counts) a.at (sym c.in_ok-opcode.ensures) c.in-18.is)
 
 pub returns-in-20 : goal.returns-in-20
 returns-in-20 c =
