@@ -1,4 +1,5 @@
 pub mod Parts
 pub mod Rows
 pub mod Names
+pub mod Named
 pub mod Commands

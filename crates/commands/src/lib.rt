@@ -7,6 +7,9 @@ mod row;
 
 use crate::command::Command;
 
+// Where reading a line stands.
+pub use crate::part::Spot;
+
 // The numbers of a line's parts in order, 0 where it has no such part, and how many bytes or values end the line.
 #[derive(Clone, Copy, Debug, PartialEq, Eq)]
 pub struct Parts {

@@ -17,7 +17,7 @@ pub struct Line {
 }
 
 // The worth of what is no digit, in a number.
-const NONE: u64 = 16;
+pub const NONE: u64 = 16;
 
 // The field of a line whose image is malformed: it has no answer after it.
 const MALFORMED: u64 = 3;
