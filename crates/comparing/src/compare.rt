@@ -43,7 +43,7 @@ pub fn float_cmp(cmp: FloatCmp, x: IrValue, y: IrValue) -> Result<IrValue, Refus
 }
 
 // The Bool unchanged, as in the Rust.
-#[tactic(auto, unfolding(value::specs::Ir::value_of, value::specs::Ir::ir_of, value::specs::Ir::computed, value::specs::Value::notted, value::specs::Value::tag, value::specs::Answer::need))]
+#[tactic(auto, using(crate::proofs::Comparing::not_is))]
 pub fn not(x: IrValue) -> Result<IrValue, Refusal>
     ensures { result ≡ computed (notted (value_of x)) }
 {

@@ -54,3 +54,8 @@ told_none why = told (Err why) 0
 unfoldable pub told_of : State → (room : ℕ) → Told
 told_of t room =
     pick (sound_of t) (pick (leb t.memory.registers.pointers room) (told (Ok tt) t.memory.registers.pointers) (told_none short_table)) (told_none not_sound)
+
+-- the number of records or a refusal, as an answer with its number of records
+abbrev pub as_told : Result ℕ Refusal → Told
+as_told (Ok n) = told (Ok tt) n
+as_told (Err why) = told_none why

@@ -4,7 +4,7 @@
 ghost use Rattle.std.specs.Prelude.{◌≡◌};
 ghost use Rattle.memory.specs.Tables.{tables, state};
 ghost use Rattle.live_list.specs.Record.{record_in};
-ghost use Rattle.live_table.specs.Table.{shown, tabled, tabled_of};
+ghost use Rattle.live_table.specs.Table.{shown, tabled, tabled_of, as_told, told_of};
 
 use live_list::record_at;
 use memory::{LiveRecord, Registers};
@@ -33,8 +33,30 @@ impl From<LiveRecord> for PointerRecord {
     }
 }
 
+// How many records go to a table with this room: one for each pointer, or 10, then 41.
+#[tactic(auto, unfolding(crate::specs::Table::told_of))]
+fn tell(
+    m: Registers,
+    store: &[u8],
+    frames: &[u64],
+    bounds: &[u64],
+    pointers: &[u64],
+    vars: &[u64],
+    room: usize,
+) -> Result<usize, Refusal>
+    ensures { as_told result ≡ told_of (state (tables m store.now frames.now bounds.now pointers.now) vars.now) room }
+{
+    if !sound(m, store, frames, bounds, pointers, vars) {
+        return Err(Refusal::NotSound);
+    }
+    if room < m.pointers {
+        return Err(Refusal::ShortTable);
+    }
+    Ok(m.pointers)
+}
+
 // One record for each pointer number, rising: 10 where the state is not sound, 41 where the table is shorter than the pointers.
-#[tactic(auto, using(crate::proofs::Filled::filled_none), unfolding(crate::specs::Table::tabled_of))]
+#[tactic(auto, using(crate::proofs::Filled::filled_none))]
 pub fn live_table<'a, 't>(
     m: Registers,
     store: &'a [u8],
@@ -46,13 +68,8 @@ pub fn live_table<'a, 't>(
 ) -> Result<(), Refusal>
     ensures { tabled result table.new ≡ tabled_of (state (tables m store.now frames.now bounds.now pointers.now) vars.now) table.old }
 {
-    if !sound(m, store, frames, bounds, pointers, vars) {
-        return Err(Refusal::NotSound);
-    }
-    if table.len() < m.pointers {
-        return Err(Refusal::ShortTable);
-    }
-    for k in 0..m.pointers {
+    let n = tell(m, store, frames, bounds, pointers, vars, table.len())?;
+    for k in 0..n {
         table[k] = PointerRecord::from(record_at(m.depth, k, frames, pointers));
     }
     Ok(())

@@ -6,7 +6,7 @@ use mathlib.Core.Path.{◌≡◌, refl, sym, ap, ◌∙◌, subst}
 use mathlib.Core.Bool as B
 use mathlib.Core.Bool.{true, false, not, ◌&&◌, ◌||◌}
 use mathlib.Core.List.{[], ◌∷◌}
-use mathlib.Core.Option.{some}
+use mathlib.Core.Option.{some, some-injective}
 use Prim.Native.Nat.{ℕ, zero, suc, ◌-◌, ◌/◌, ◌%◌, ◌<◌, ◌≤◌, ◌^◌}
 use native.Mathlib.Omega.{arith}
 use native.Mathlib.Nat.{div-le_self, mod-le, lt_of_le_of_lt, lt_of_lt_of_le}
@@ -26,7 +26,7 @@ use Rattle.value.specs.Answer.{Answer, need, pick, ◌>>=◌}
 use Rattle.value.specs.Floats.{bits32, bits64, single, double}
 use Rattle.value.specs.Ir.{value_of, ir_of, computed}
 use Rattle.value.specs.Refusal.{wrong_kinds, outside_width, zero_divisor}
-use Rattle.value.specs.Tags.{kind_at}
+use Rattle.value.specs.Tags.{kind_at, named}
 use Rattle.value.specs.Value.{Kind, Value, value, Family, Operation, tag, same, family, is_unsigned, is_signed, is_float, size, width, within, integer, bits_of, checked, operate, arithmetic, flip, negate_as, negated, is_zero, bool, u8, u16, u32, u64, i8, i16, i32, i64, f32, f64, char, asn, pointer}
 use Rattle.value.specs.Value as Believed
 use Rattle.value.specs.declared.Single.{Single}
@@ -37,7 +37,7 @@ use Rattle.value.proofs.Leftover.{rest, fails, left_over_lem}
 use Rattle.value.specs.contracts.IrValue.{the_type}
 use Rattle.value.proofs.Complement.{bits_are}
 use Rattle.value.proofs.Tags.{kind_of_tag}
-use Rattle.operations.proofs.Widths.{Counts, Signs, out, read_back, count_within, count-holds, within-is, sign_holds, unfit}
+use Rattle.operations.proofs.Widths.{Counts, Signs, out, read_back, count_within, count-holds, within-is, sign_holds, minus-checked, div_unfit}
 
 -- ---- what the last arms of the matches know
 
@@ -293,13 +293,26 @@ some_bits (suc n) e = omega arith
 abbrev own : Width → ℤ → ℤ
 own w z = to_z w (of_z w z)
 
+refused-out : (k : Kind) (z : ℤ) → Err outside_width ≡ computed (checked k z) → within (family k) (width k) z ≡ false
+unfolding checked need computed
+refused-out k z e = go (within (family k) (width k) z) refl
+  where
+    go : (t : B.Bool) → within (family k) (width k) z ≡ t → t ≡ false
+    go true i = let n : Err outside_width ≡ Ok (ir_of k (bits_of k z)) = e ∙ rw i refl in absurd (let z : ◌≡◌ {A = ℕ} 0 1 = cc in omega arith)
+    go false i = refl
+
 module _ {w : Width} {k : Kind} {con : ℤ → IrValue} (s : Signs w k con) (a b : ℤ) (F : SFits w a) (G : SFits w b) (d : Option ℤ) where
+  -- a quotient that is refused lies outside
+  no_quotient : is_zero b ≡ false → (SFits w (quot_z a b) → ⊥) → within (family k) (width k) (quot_z a b) ≡ false
+  unfolding operate need
+  no_quotient i n = refused-out k (quot_z a b) (div_unfit s a b F G n ∙ rw i)
+
   signed_divides : (f : ℤ → ℤ → ℤ) → (SFits w (quot_z a b) → SFits w (f a b)) → SomeIff d (CanDivide w (own w a) (own w b)) (f (own w a) (own w b)) → Divides k (λ z. z) (SFits w) f a b d
   signed_divides f g h = go d (rw (to_z-of_z w a F, to_z-of_z w b G) at h)
     where
       go : (d : Option ℤ) → SomeIff d (CanDivide w a b) (f a b) → Divides k (λ z. z) (SFits w) f a b d
       go (Some c) h = (sym (no_bits w b G) ∙ ne_eqb _ 0 (λ e. let l = h.0.0 in omega arith), within-is s _ ∙ lt-ltb _ _ h.0.1.sfits, subst (SFits w) (sym h.1) (g h.0.1), h.1)
-      go None h = λ i. unfit s _ (λ f. h (some_bits _ (no_bits w b G ∙ i), f))
+      go None h = λ i. no_quotient i (λ f. h (some_bits _ (no_bits w b G ∙ i), f))
 
   pub signed-divides : SomeIff d (CanDivide w (own w a) (own w b)) (quot_z (own w a) (own w b)) → Divides k (λ z. z) (SFits w) quot_z a b d
   signed-divides = signed_divides quot_z (λ f. f)
@@ -337,8 +350,7 @@ module _ {w : Width} {k : Kind} {con : ℤ → IrValue} (s : Signs w k con) {x :
       ∙ sym (ap (λ (f : Family). computed (negate_as f (value_of x))) (ap family p ∙ s.family-is))
 
   opposite : (d : Option ℤ) → SomeIff d (SFits w (neg_ℤ a)) (neg_ℤ a) → ok_or (option_map con d) outside_width ≡ computed (negated (value_of x))
-  opposite (Some c) h = ap (λ (z : ℤ). Ok (con z)) h.1 ∙ sign_holds s (neg_ℤ a) h.0 ∙ negated-at
-  opposite None h = out k (neg_ℤ a) (unfit s (neg_ℤ a) h) ∙ negated-at
+  opposite d h = minus-checked s a F d h ∙ negated-at
 
   pub opposite-is : (d : Option ℤ) {q m : Option IrValue} {r : Result IrValue Refusal} → SomeIff d (SFits w (neg_ℤ (own w a))) (neg_ℤ (own w a)) → Mapped con d q → m ≡ q → r ≡ ok_or m outside_width → r ≡ computed (negated (value_of x))
   opposite-is d {q} h M Q R = R ∙ rw (Q, mapped con d q M) (opposite d (rw (to_z-of_z w a F) at h))
@@ -351,3 +363,17 @@ minus32 {r = r} e f g h = ap (λ (r : Single). Ok (F32 r)) (h ∙ ap single (g �
 pub minus64 : {x : IrValue} {a r : Double} {b c : ℕ} → x ≡ F64 a → b ≡ bits64 a → c ≡ flip 64 b → r ≡ double c → Ok (F64 r) ≡ computed (negated (value_of x))
 unfolding negated computed value_of ir_of family size
 minus64 {r = r} e f g h = ap (λ (r : Double). Ok (F64 r)) (h ∙ ap double (g ∙ ap (flip 64) f)) ∙ sym (ap (λ (v : IrValue). computed (negated (value_of v))) e)
+
+-- ---- MIN / -1 at 32 bits
+
+is_32 : (k : Kind) → tag k ≡ 8 → k ≡ i32
+unfolding tag kind_at named
+is_32 k e = some-injective _ _ (sym (kind_of_tag k) ∙ ap kind_at e)
+
+pub least_32 : (x y : IrValue) → tag (value_of x).kind ≡ 8 → (value_of x).bits ≡ 2147483648 → tag (value_of y).kind ≡ 8 → (value_of y).bits ≡ 4294967295
+    → Err outside_width ≡ computed (arithmetic Believed.div (value_of x) (value_of y))
+unfolding arithmetic operate checked computed need integer family tag size
+least_32 x y e f g h = of_values (value_of x).kind (value_of y).kind (value_of x).bits (value_of y).bits (is_32 _ e) (is_32 _ g) f h
+  where
+    of_values : (k l : Kind) (a b : ℕ) → k ≡ i32 → l ≡ i32 → a ≡ 2147483648 → b ≡ 4294967295 → Err outside_width ≡ computed (arithmetic Believed.div (value k a) (value l b))
+    of_values k l a b e g f h = rw (e, g, f, h) refl

@@ -1,15 +1,17 @@
--- Which numbers each integer kind holds, proved once over the width, and what std's conversion into a width says of them.
-use Rattle.std.specs.Prelude.{Result, Ok, Err, OkIff, MatchResult, IsOkAnd, IsErrAnd}
+-- Which numbers each integer kind holds, proved once over the width, what the machine's own negation and quotient give there, and what std's conversion into a width says of it.
+use Rattle.std.specs.Prelude.{Option, Some, None, Result, Ok, Err, SomeIff, OkIff, MatchResult, IsOkAnd, IsErrAnd}
+use Rattle.std.specs.Option.{ok_or, option_map}
 use Rattle.std.specs.Int.{FitsUnsigned}
 use mathlib.Core.Path.{◌≡◌, refl, sym, ap, ◌∙◌, subst}
 use mathlib.Core.Bool.{Bool, true, false, ◌&&◌}
-use Prim.Native.Nat.{ℕ, zero, suc, ◌-◌, ◌<◌, ◌≤◌, ◌^◌}
+use Prim.Native.Nat.{ℕ, zero, suc, ◌-◌, ◌/◌, ◌<◌, ◌≤◌, ◌^◌}
 use native.Mathlib.Omega.{arith}
-use borrow.Author.Tests.{lt-ltb, le-ltb, le-leb, ltb-true, ltb-false}
-use lib.Dec.{ltb, leb}
+use native.Mathlib.Nat.{div-le_self, div-one, lt_of_le_of_lt, div-lt_iff_lt-mul, mul_comm, suc-mul}
+use borrow.Author.Tests.{lt-ltb, le-ltb, le-leb, ltb-true, ltb-false, eqb-true, eqb-false}
+use lib.Dec.{ltb, leb, eqb}
 use lib.IntN.{ℤ, pos, negsuc, neg_ℤ, nat_abs, ◌-ℤ◌}
 use lib.Pow.{pow_pos}
-use lib.Signed.{mag}
+use lib.Signed.{mag, quot_z}
 use mir.Syntax.{Width, w8, w16, w32, w64}
 use mir.Val as Machine
 use mir.Val.{SFits, hbits, to_z, of_z}
@@ -18,7 +20,8 @@ use Rattle.value.specs.Answer.{need, pick, ok}
 use Rattle.value.specs.Ir.{value_of, ir_of, computed}
 use Rattle.value.specs.Refusal.{outside_width}
 use Rattle.value.specs.declared.refusal.Refusal.{Refusal}
-use Rattle.value.specs.Value.{Kind, Value, value, Family, signed, unsigned, family, is_signed, size, width, within, integer, bits_of, checked, u8, u16, u32, u64, i8, i16, i32, i64}
+use Rattle.value.specs.Value.{Kind, Value, value, Family, signed, unsigned, family, is_signed, size, width, within, integer, bits_of, checked, operate, is_zero, u8, u16, u32, u64, i8, i16, i32, i64}
+use Rattle.value.specs.Value as Believed
 use Rattle.value.specs.declared.IrValue.{IrValue}
 use Rattle.value.specs.declared.IrValue.TheVariants.{U8, U16, U32, U64, I8, I16, I32, I64}
 use Rattle.value.proofs.Complement.{bits_are, reading}
@@ -160,6 +163,61 @@ module _ {w : Width} {k : Kind} {con : ℤ → IrValue} (s : Signs w k con) (z :
   -- MIN has no opposite
   pub minus-least : of_z w z ≡ 2 ^ hbits w → Err outside_width ≡ computed (checked k (neg_ℤ z))
   minus-least e = out k (neg_ℤ z) (within-is s (neg_ℤ z) ∙ le-ltb _ _ (subst (λ (y : ℤ). 2 ^ hbits w ≤ mag (neg_ℤ y)) (sym (least w z h e)) (omega (arith, pow_pos (hbits w)))))
+
+  -- so std's checked negation is one of these two
+  pub minus-checked : (d : Option ℤ) → SomeIff d (SFits w (neg_ℤ z)) (neg_ℤ z) → ok_or (option_map con d) outside_width ≡ computed (checked k (neg_ℤ z))
+  minus-checked d f = go (eqb (of_z w z) (2 ^ hbits w)) refl d f
+    where
+      go : (t : Bool) → eqb (of_z w z) (2 ^ hbits w) ≡ t → (d : Option ℤ) → SomeIff d (SFits w (neg_ℤ z)) (neg_ℤ z) → ok_or (option_map con d) outside_width ≡ computed (checked k (neg_ℤ z))
+      go true e None f = minus-least (eqb-true _ _ e)
+      go true e (Some c) f =
+          let g = subst (λ (y : ℤ). mag (neg_ℤ y) < 2 ^ hbits w) (least w z h (eqb-true _ _ e)) f.0.sfits in
+          absurd (omega (arith, pow_pos (hbits w)))
+      go false e None f = absurd (f (subst (SFits w) negated (minus-fits (eqb-false _ _ e))))
+      go false e (Some c) f =
+          let n = eqb-false _ _ e in
+          ap (λ (y : ℤ). Ok (con y)) (f.1 ∙ sym (to_z-of_z w _ (minus-fits n) ∙ negated)) ∙ minus_is n
+
+-- ---- the machine's own quotient: MIN by -1 alone lies outside
+
+one_less : (w : Width) (z : ℤ) → SFits w z → of_z w z ≡ 2 ^ Machine.bits w - 1 → z ≡ negsuc 0
+one_less w (pos n) h e = let f = h.sfits in absurd (omega (arith, pow-bits w, pow_pos (hbits w)))
+one_less w (negsuc n) h e = let f = h.sfits in ap negsuc (omega (arith, pow-bits w))
+
+neg_mag : (r a : ℕ) → r ≤ suc a → mag (neg_ℤ (pos r)) ≤ a
+neg_mag zero a h = omega arith
+neg_mag (suc r) a h = omega arith
+
+half_le : (a b : ℕ) → suc a / suc (suc b) ≤ a
+half_le a b = let h : suc a / suc (suc b) < suc a = (div-lt_iff_lt-mul {k = suc (suc b)} (omega arith)).1 (omega (arith, mul_comm (suc a) (suc (suc b)), suc-mul (suc b) (suc a), suc-mul b (suc a))) in omega arith
+
+quotient_mag : (w : Width) (a b : ℤ) → SFits w a → SFits w b → (of_z w b ≡ 2 ^ Machine.bits w - 1 → of_z w a ≡ 2 ^ hbits w → ⊥) → mag (quot_z a b) < 2 ^ hbits w
+quotient_mag w (pos a) (pos b) A B n = lt_of_le_of_lt (div-le_self a b) A.sfits
+quotient_mag w (pos a) (negsuc b) A B n = lt_of_le_of_lt (neg_mag (a / suc b) a (let h = div-le_self a (suc b) in omega arith)) A.sfits
+quotient_mag w (negsuc a) (pos b) A B n = lt_of_le_of_lt (neg_mag (suc a / b) a (div-le_self (suc a) b)) A.sfits
+quotient_mag w (negsuc a) (negsuc zero) A B n = subst (λ (q : ℕ). q < 2 ^ hbits w) (sym (div-one (suc a))) (minus_mag w (negsuc a) A (n refl))
+quotient_mag w (negsuc a) (negsuc (suc b)) A B n = lt_of_le_of_lt (half_le a b) A.sfits
+
+least_quotient : (h : ℕ) → 0 < h → h ≤ mag (quot_z (negsuc (h - 1)) (negsuc 0))
+least_quotient h p = subst (λ (q : ℕ). h ≤ q) (sym (div-one (suc (h - 1)))) (omega arith)
+
+module _ {w : Width} {k : Kind} {con : ℤ → IrValue} (s : Signs w k con) (a b : ℤ) (A : SFits w a) (B : SFits w b) where
+  outside : of_z w b ≡ 2 ^ Machine.bits w - 1 → of_z w a ≡ 2 ^ hbits w → 2 ^ hbits w ≤ mag (quot_z a b)
+  outside e f = subst (λ (y : ℤ). 2 ^ hbits w ≤ mag (quot_z a y)) (sym (one_less w b B e)) (subst (λ (x : ℤ). 2 ^ hbits w ≤ mag (quot_z x (negsuc 0))) (sym (least w a A f)) (least_quotient (2 ^ hbits w) (pow_pos (hbits w))))
+
+  -- MIN by -1
+  pub div-least : of_z w b ≡ 2 ^ Machine.bits w - 1 → of_z w a ≡ 2 ^ hbits w → Err outside_width ≡ computed (operate Believed.div k a b)
+  unfolding operate need
+  div-least e f = out k (quot_z a b) (within-is s (quot_z a b) ∙ le-ltb _ _ (outside e f)) ∙ sym (rw (ap is_zero (one_less w b B e)))
+
+  -- a quotient that does not fit is that one
+  pub div_unfit : (SFits w (quot_z a b) → ⊥) → Err outside_width ≡ computed (operate Believed.div k a b)
+  div_unfit n = go (eqb (of_z w b) (2 ^ Machine.bits w - 1)) (eqb (of_z w a) (2 ^ hbits w)) refl refl
+    where
+      go : (t u : Bool) → eqb (of_z w b) (2 ^ Machine.bits w - 1) ≡ t → eqb (of_z w a) (2 ^ hbits w) ≡ u → Err outside_width ≡ computed (operate Believed.div k a b)
+      go true true e f = div-least (eqb-true _ _ e) (eqb-true _ _ f)
+      go true false e f = absurd (n (record { sfits = quotient_mag w a b A B (λ x y. eqb-false _ _ f y) }))
+      go false u e f = absurd (n (record { sfits = quotient_mag w a b A B (λ x y. eqb-false _ _ e x) }))
 
 -- ---- a conversion into the width, whose value a variant takes, and whose error the refusal
 

@@ -42,6 +42,7 @@ pub fn mul(x: IrValue, y: IrValue) -> Result<IrValue, Refusal>
 }
 
 // The quotient, cut toward zero.
+#[tactic(auto, using(crate::proofs::Arithmetic::least_32))]
 pub fn div(x: IrValue, y: IrValue) -> Result<IrValue, Refusal>
     ensures { result ≡ computed (arithmetic Believed.div (value_of x) (value_of y)) }
 {
